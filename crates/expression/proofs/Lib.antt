@@ -1,0 +1,17 @@
+pub mod Bools
+pub mod Fits
+pub mod NoN
+pub mod Least
+pub mod Unique
+pub mod Pick
+pub mod Suits
+pub mod Insert
+pub mod Exists
+pub mod Spec
+pub mod Theorems
+pub mod Split
+pub mod Length
+pub mod Search
+pub mod Closure
+pub mod Restore
+pub mod Arrange

@@ -1,0 +1,73 @@
+-- The text of an expression is in the grammar, with that expression: what the writer writes, the check reads back, and calls "same".
+--     written         UsesOnce n e → n ≤ 32 → Text 32 (text e) e
+--     form-checked    HouseForm R n e → n ≤ 32 → checked n R (text e) ≡ same
+-- Assumes nothing.
+use mathlib.Core.Path.{_≡_, refl, sym, ap, _∙_, subst}
+use mathlib.Core.Bool.{Bool, true, false, cond}
+use mathlib.Core.List.{List, [], _∷_, _++_}
+use mathlib.Core.Logic.{inl, inr}
+use Prim.Native.Nat.{ℕ, zero, suc, _+_, _*_, _/_, _%_, _≤_, _<_}
+use native.Mathlib.Omega.{arith}
+use lib.Dec.{ltb}
+use lib.ListN.{length}
+use borrow.Author.Tests.{ltb-true, ltb-false}
+use Rattle.expression.specs.Expr.{Expr, goal, join, Members, one, more, UsesOnce, HouseForm}
+use Rattle.expression.specs.Text.{mark, inner, run, text}
+use Rattle.expression.specs.Text
+use Rattle.expression.proofs.Bools.{by-test}
+use Rattle.expression.proofs.Fits.{In, InM}
+use Rattle.expression.proofs.Theorems.{uses-in}
+use Rattle.expression.proofs.Length.{joins, joinsM, joins-few, text-fits}
+use Rattle.grammar.specs.Grammar.{Number, single, double, Joined, alone, several, Others, last, next, Member, group, number, parens, Text as TextOf}
+use Rattle.grammar.specs.Reader.{accepted, refused, read}
+use Rattle.grammar.specs.Check.{same, checked}
+use Rattle.grammar.proofs.Complete.{complete}
+use Rattle.grammar.proofs.Sound.{not-both}
+use Rattle.grammar.proofs.Meaning.{checked-same}
+
+number-text : (g : ℕ) → 1 ≤ g → g < 100 → Number (Text.number g) g
+number-text g lo hi =
+    by-test (λ t. Number t g) (ltb g 10) (λ t. single g lo (ltb-true g 10 t))
+    (λ t. let le = ltb-false g 10 t in
+    let e : 10 * (g / 10) + g % 10 ≡ g = omega arith in
+    subst (λ z. Number ((48 + g / 10) ∷ (48 + g % 10) ∷ []) z) e (double (g / 10) (g % 10) (omega arith) (omega arith) (omega arith)))
+
+-- a join of kind k is a sequence
+as-sequence : (k : Bool) (d : ℕ) (u w : List ℕ) (e : Expr) (ms : Members) → Member false d u e → Others k d w ms → Joined true d (u ++ (mark k ∷ w)) (join k e ms)
+as-sequence true d u w e ms m o = several (group (alone m)) o refl
+as-sequence false d u w e ms m o = alone (group (several m o refl))
+
+as-member : (k : Bool) (d : ℕ) (u : List ℕ) (e : Expr) → Member false d u e → Member k d u e
+as-member true d u e m = group (alone m)
+as-member false d u e m = m
+
+mutual
+  inner-text : (e : Expr) (d : ℕ) → ((i : ℕ) → In i e → (1 ≤ i) × (i < 100)) → joins e ≤ d → Member false d (inner e) e
+  inner-text (goal g) d h le = number (number-text g (h g refl .0) (h g refl .1))
+  inner-text (join k e ms) d h le = nested d (λ c m. as-sequence k c (inner e) (run k ms) e ms (inner-text e c (λ i p. h i (inl p)) (omega arith)) (run-text ms k c (λ i p. h i (inr p)) (omega arith))) le
+    where
+      nested : (d : ℕ) → ((c : ℕ) → joins e + joinsM ms ≤ c → Joined true c (inner e ++ (mark k ∷ run k ms)) (join k e ms)) → 1 + joins e + joinsM ms ≤ d → Member false d (inner (join k e ms)) (join k e ms)
+      nested zero j l = absurd (omega arith)
+      nested (suc c) j l = parens (j c (omega arith)) refl
+
+  run-text : (ms : Members) (k : Bool) (d : ℕ) → ((i : ℕ) → InM i ms → (1 ≤ i) × (i < 100)) → joinsM ms ≤ d → Others k d (run k ms) ms
+  run-text (one e) k d h le = last (as-member k d (inner e) e (inner-text e d h le))
+  run-text (more e ms) k d h le = next (as-member k d (inner e) e (inner-text e d (λ i p. h i (inl p)) (omega arith))) (run-text ms k d (λ i p. h i (inr p)) (omega arith)) refl
+
+pub written-text : (e : Expr) (d : ℕ) → ((i : ℕ) → In i e → (1 ≤ i) × (i < 100)) → joins e ≤ d → TextOf d (text e) e
+written-text (goal g) d h le = alone (group (alone (inner-text (goal g) d h le)))
+written-text (join k e ms) d h le = as-sequence k d (inner e) (run k ms) e ms (inner-text e d (λ i p. h i (inl p)) (omega arith)) (run-text ms k d (λ i p. h i (inr p)) (omega arith))
+
+pub written : (n : ℕ) (e : Expr) → UsesOnce n e → n ≤ 32 → TextOf 32 (text e) e
+written n e u h = let j = joins-few n e u h in written-text e 32 (λ i p. let r = uses-in n e u i p in (r .0, omega (arith, r .1))) (omega arith)
+
+-- a text of the grammar is not empty
+some-bytes : (d : ℕ) (t : List ℕ) (e : Expr) → TextOf d t e → 1 ≤ length t
+some-bytes d [] e j = absurd (not-both e 0 (complete d [] e j))
+some-bytes d (b ∷ t) e j = omega arith
+
+pub form-checked : (R : ℕ → ℕ → Bool) (n : ℕ) (e : Expr) → HouseForm R n e → n ≤ 32 → checked n R (text e) ≡ same
+form-checked R n e f h =
+    let j = written n e (f .uses) h in
+    checked-same n R (text e) .1 (record
+    { some-bytes = some-bytes 32 (text e) e j; few-bytes = omega (arith, text-fits n e (f .uses) h); expr = e; text = j; uses = f .uses; order = f .order })
