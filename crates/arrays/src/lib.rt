@@ -1,0 +1,1 @@
+// Whole arrays as tables: definition in specs/, laws in proofs/.

@@ -1,0 +1,81 @@
+-- Laws of rows: what the rows of a relation have, and that nothing else has it.
+use mathlib.Core.Path.{_≡_, refl, sym, ap, _∙_, subst}
+use mathlib.Core.Bool.{Bool, true, false, _&&_}
+use mathlib.Core.List.{List}
+use mathlib.Core.Logic.{dite}
+use Prim.Native.Nat.{ℕ, zero, suc, _^_, _≤_, _<_}
+use native.Mathlib.Nat.{lt-of-lt-of-le}
+use native.Mathlib.Decide.{decLt}
+use native.Mathlib.Omega.{arith}
+use lib.ListN.{length, getD, replicate, length-replicate, getD-replicate}
+use lib.Pow.{pow-pos, pow-mono}
+use Rattle.sets.specs.Sets.{has}
+use Rattle.sets.proofs.Laws.{has-empty, has-above}
+use Rattle.sets.proofs.Builder.{setOf-lt, has-setOf-in, setOf-ext}
+use Rattle.arrays.proofs.Table.{table-length, table-at, table-past, table-ext}
+use Rattle.graph.specs.Graph.{hasGoal, ahead, goalsOf, rowsOf}
+
+-- the set of goals of which f holds
+pub goals-has : (n : ℕ) (f : ℕ → Bool) (g : ℕ) → 1 ≤ g → g ≤ n → hasGoal (goalsOf n f) g ≡ f g
+unfolding goalsOf
+goals-has n f zero a b = absurd (omega arith)
+goals-has n f (suc i) a b = has-setOf-in n (λ k. f (suc k)) i b
+
+pub goals-lt : (n : ℕ) (f : ℕ → Bool) → goalsOf n f < 2 ^ n
+unfolding goalsOf
+goals-lt n f = setOf-lt n (λ k. f (suc k))
+
+pub goals-ext : (n m : ℕ) (f : ℕ → Bool) → m < 2 ^ n → ((g : ℕ) → 1 ≤ g → g ≤ n → hasGoal m g ≡ f g) → m ≡ goalsOf n f
+unfolding goalsOf
+goals-ext n m f h e = setOf-ext n m (λ k. f (suc k)) h (λ i l. e (suc i) (omega arith) l)
+
+pub rows-length : (n : ℕ) (R : ℕ → ℕ → Bool) → length (rowsOf n R) ≡ 32
+unfolding rowsOf
+rows-length n R = table-length 32 n (λ i. goalsOf n (R (suc i)))
+
+pub row-at : (n : ℕ) (R : ℕ → ℕ → Bool) (i : ℕ) → i < 32 → i < n → getD (rowsOf n R) i 0 ≡ goalsOf n (R (suc i))
+unfolding rowsOf
+row-at n R i h l = table-at 32 n (λ k. goalsOf n (R (suc k))) i h l
+
+pub row-past : (n : ℕ) (R : ℕ → ℕ → Bool) (i : ℕ) → n ≤ i → getD (rowsOf n R) i 0 ≡ 0
+unfolding rowsOf
+row-past n R i l = table-past 32 n (λ k. goalsOf n (R (suc k))) i l
+
+-- on the goals the rows say what the relation says
+pub rows-say : (n : ℕ) (R : ℕ → ℕ → Bool) (i j : ℕ) → n ≤ 32 → 1 ≤ i → i ≤ n → 1 ≤ j → j ≤ n → ahead (rowsOf n R) i j ≡ R i j
+rows-say n R zero j h a b c d = absurd (omega arith)
+rows-say n R (suc i) j h a b c d =
+    ap (λ (m : ℕ). hasGoal m j) (row-at n R i (omega arith) b) ∙ goals-has n (R (suc i)) j c d
+
+-- every row is a set of the goals 1 to n
+pub row-lt : (n : ℕ) (R : ℕ → ℕ → Bool) (i : ℕ) → n ≤ 32 → getD (rowsOf n R) i 0 < 2 ^ n
+row-lt n R i h =
+    dite (decLt i n)
+    (λ l. subst (λ (m : ℕ). m < 2 ^ n) (sym (row-at n R i (omega arith) l)) (goals-lt n (R (suc i))))
+    (λ l. subst (λ (m : ℕ). m < 2 ^ n) (sym (row-past n R i (omega arith))) (pow-pos n))
+
+-- past the goals the rows have nothing
+pub rows-none : (n : ℕ) (R : ℕ → ℕ → Bool) (i j : ℕ) → n ≤ 32 → n < j → ahead (rowsOf n R) i j ≡ false
+rows-none n R zero j h b = refl
+rows-none n R (suc i) zero h b = refl
+rows-none n R (suc i) (suc j) h b = has-above n (getD (rowsOf n R) i 0) j (row-lt n R i h) (omega arith)
+
+-- rows that say the same on the goals, and nothing else, are those of the relation
+pub rows-ext : (n : ℕ) (R : ℕ → ℕ → Bool) (l : List ℕ) → n ≤ 32 → length l ≡ 32 → ((i : ℕ) → i < n → getD l i 0 < 2 ^ n)
+    → ((i j : ℕ) → 1 ≤ i → i ≤ n → 1 ≤ j → j ≤ n → ahead l i j ≡ R i j) → ((i : ℕ) → i < 32 → n ≤ i → getD l i 0 ≡ 0) → l ≡ rowsOf n R
+unfolding rowsOf
+rows-ext n R l h e small say past =
+    table-ext 32 n (λ i. goalsOf n (R (suc i))) l e
+    (λ i b k. goals-ext n (getD l i 0) (R (suc i)) (small i k) (λ g c d. say (suc i) g (omega arith) k c d)) past
+
+-- two relations that agree on the goals have the same rows
+pub rows-cong : (n : ℕ) (R Q : ℕ → ℕ → Bool) → n ≤ 32 → ((i j : ℕ) → 1 ≤ i → i ≤ n → 1 ≤ j → j ≤ n → R i j ≡ Q i j) → rowsOf n R ≡ rowsOf n Q
+rows-cong n R Q h e =
+    rows-ext n Q (rowsOf n R) h (rows-length n R) (λ i k. row-lt n R i h) (λ i j a b c d. rows-say n R i j h a b c d ∙ e i j a b c d)
+    (λ i b k. row-past n R i k)
+
+-- no goals, no rows
+pub rows-zero : (R : ℕ → ℕ → Bool) → replicate 32 0 ≡ rowsOf 0 R
+rows-zero R =
+    rows-ext 0 R (replicate 32 0) (omega arith) (length-replicate {A = ℕ} 32 0) (λ i k. absurd (omega arith)) (λ i j a b c d. absurd (omega arith))
+    (λ i b k. getD-replicate {A = ℕ} 32 i 0 0 b)

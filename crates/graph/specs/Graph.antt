@@ -1,0 +1,34 @@
+-- Sets of goals and dependency graphs. Goal g stands at bit g - 1 of a set, and at row g - 1 of a graph.
+use mathlib.Core.Bool.{Bool, false}
+use mathlib.Core.List.{List}
+use Prim.Native.Nat.{ℕ, zero, suc}
+use lib.ListN.{getD, replicate}
+use Rattle.sets.specs.Sets.{has, setOf}
+use Rattle.arrays.specs.Table.{table}
+use Rattle.graph.specs.declared.Graph.{Graph}
+
+-- goal g is in the set m; 0 is no goal
+abbrev pub hasGoal : ℕ → ℕ → Bool
+hasGoal m zero = false
+hasGoal m (suc i) = has m i
+
+-- the rows have goal i before goal j
+abbrev pub ahead : List ℕ → ℕ → ℕ → Bool
+ahead rows zero j = false
+ahead rows (suc i) j = hasGoal (getD rows i 0) j
+
+-- the set of those of the goals 1 to n of which f holds
+unfoldable pub goalsOf : ℕ → (ℕ → Bool) → ℕ
+goalsOf n f = setOf n (λ i. f (suc i))
+
+-- the rows of a relation on the goals 1 to n: row g - 1 has the goals h with R g h, the rows past n are zero
+unfoldable pub rowsOf : ℕ → (ℕ → ℕ → Bool) → List ℕ
+rowsOf n R = table 32 n (λ i. goalsOf n (R (suc i)))
+
+-- the graph of a relation on the goals 1 to n
+abbrev pub graphOf : ℕ → (ℕ → ℕ → Bool) → Graph
+graphOf n R = record { n = n; rows = rowsOf n R }
+
+-- the graph of n goals without an edge
+abbrev pub edgeless : ℕ → Graph
+edgeless n = record { n = n; rows = replicate 32 0 }

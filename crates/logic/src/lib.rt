@@ -1,0 +1,1 @@
+// Truth values and bounded quantifiers: definitions in specs/, laws in proofs/.

@@ -1,0 +1,1 @@
+// The waiting order of a clause record.

@@ -1,0 +1,14 @@
+use mathlib.Core.Path.{refl}
+use Rattle.sets.specs.Sets.{subset}
+use Rattle.sets.proofs.subset32.Statement.{statement}
+use Rattle.sets.proofs.subset32.Tie as tie
+use Rattle.sets.proofs.subset32.Reads as reads
+use Rattle.sets.proofs.subset32.Lts as lts
+
+-- src/lib.rt:129:1
+returns : tie.Need-returns
+unfolding subset
+returns c = refl
+
+pub subset32-spec : {M : Type 1} → statement M
+subset32-spec = tie.close (tie.spec returns)
