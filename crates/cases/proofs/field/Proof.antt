@@ -1,0 +1,52 @@
+use mathlib.Core.Path.{_≡_, ap, _∙_}
+use Prim.Native.Nat.{ℕ, _-_}
+use native.Mathlib.Omega.{arith}
+use lib.ListN.{take, drop}
+use Rattle.cases.specs.Line.{upTo}
+use Rattle.cases.proofs.Laws.{field-is}
+use borrow.Author.Needs.{needs}
+use Rattle.cases.proofs.field.Statement.{statement}
+use Rattle.cases.proofs.field.Tie as tie
+use Rattle.cases.proofs.field.Reads as reads
+use Rattle.cases.proofs.field.Lts as lts
+use Rattle.cases.proofs.field_start.Reads as field-start-reads
+use Rattle.cases.proofs.find.Reads as find-reads
+
+-- src/lib.rt:52:9
+field-start-requires : tie.Need-field-start-requires
+field-start-requires c κs = search needs
+
+-- src/lib.rt:53:9
+find-requires : tie.Need-find-requires
+find-requires c κs = search needs
+
+-- src/lib.rt:54:5
+sub-result : tie.Need-sub-result
+sub-result c = search needs
+
+-- src/lib.rt:54:5
+part-result-start : tie.Need-part-result-start
+part-result-start c = search needs
+
+-- src/lib.rt:54:5
+part-result-end : tie.Need-part-result-end
+part-result-end c = search needs
+
+-- src/lib.rt:49:1
+returns : tie.Need-returns
+returns c =
+    let l = c .before .before .before .before .args .s .now in
+    let at = c .before .before .field-start .result in
+    let e : c .before .find .result - at ≡ upTo 32 (drop at l) = omega (arith, c .before .find .ensures .0) in
+    ap (λ (k : ℕ). take k (drop at l)) e ∙ field-is l (c .before .before .before .before .args .k) at (c .before .before .field-start .ensures .0)
+
+pub field-spec : {M : Type 1} → statement M
+field-spec =
+    tie.close
+    (tie.spec
+    field-start-requires
+    find-requires
+    sub-result
+    part-result-start
+    part-result-end
+    returns)
