@@ -8,6 +8,7 @@ pub mod Suits
 pub mod Insert
 pub mod Exists
 pub mod Spec
+pub mod Induced
 pub mod Theorems
 pub mod Split
 pub mod Length

@@ -1,4 +1,5 @@
 pub mod Expr
+pub mod Induced
 pub mod Form
 pub mod Text
 pub mod Search
