@@ -13,10 +13,9 @@ use Rattle.expression.specs.Form.{form, chosen, upFrom}
 use Rattle.expression.specs.Arrange.{Strict, rename, renameM, at, row, along, place, arrange, formRow, formList, formOnAny, formAny}
 use Rattle.expression.proofs.Fits.{In, InM, Apart, Cross, Fits, FitsM}
 use Rattle.expression.proofs.Bools.{test, by-test}
-use Rattle.expression.proofs.Exists.{Form, Member, chosen-member, member-chosen, member-up, up-member}
+use Rattle.expression.proofs.Exists.{Form, form-on, Member, chosen-member, member-chosen, member-up, up-member}
 use Rattle.expression.proofs.Restore.{restored}
-use Rattle.expression.proofs.Spec.{fits-once, fits-before}
-use Rattle.expression.proofs.Theorems.{of-in, uses-in, in-uses, order-fits, order-no-n, form-is}
+use Rattle.expression.proofs.Uses.{form-house, all-pass}
 
 -- ---- other numbers
 module _ (f : ℕ → ℕ) where
@@ -200,17 +199,17 @@ module _ (R : ℕ → ℕ → Bool) where
           let n = length l in
           let f = row l in
           let e = form (along R l) (length l) in
-          let h = form-is (along R l) (length l) order free′ some in
-          let g = rename-fits f R (Goals n) differ e (uses-in n e (h .uses)) (order-fits (along R l) n e (h .uses) (h .order)) in
+          let h = all-pass (along R l) n e (form-on (along R l) n order free′ (λ _. true) 1 (omega arith, some) refl) in
+          let g = rename-fits f R (Goals n) differ e (λ i p. h .covers i .0 p) (h .fits) in
           let c = restored R (rename f e) g in
           record {
             covers =
                 λ i. (
-                  (λ p. let x = rename-in f e i (c .covers i .0 p) in subst (λ z. Member z l) (sym (x .2)) (in-row (x .0) (uses-in n e (h .uses) (x .0) (x .1)))),
+                  (λ p. let x = rename-in f e i (c .covers i .0 p) in subst (λ z. Member z l) (sym (x .2)) (in-row (x .0) (h .covers (x .0) .0 (x .1)))),
                   (λ p.
                       let x = member-at l i p in
                       c .covers i .1
-                      (subst (λ z. In z (rename f e)) (sym (x .2)) (in-rename f e (suc (x .0)) (in-uses n e (h .uses) (suc (x .0)) (omega arith, omega (arith, x .1)))))),
+                      (subst (λ z. In z (rename f e)) (sym (x .2)) (in-rename f e (suc (x .0)) (h .covers (suc (x .0)) .1 (omega arith, omega (arith, x .1)))))),
                 );
             fits = c .fits;
             house = c .house;
@@ -246,22 +245,6 @@ form-on-any R n o free p i gi hi =
     let f = form-list-any R (Goals n) o free (chosen p (upFrom 1 n)) (chosen-distinct p (upFrom 1 n) (up-distinct n 1)) (λ i h. inside i h .0) i (back i (gi, hi)) in
     record { covers = λ i. (λ h. inside i (f .covers i .0 h), λ h. f .covers i .1 (back i h)); fits = f .fits; house = f .house }
 
--- ---- An order on the goals 1 to n with no N has a house form,
+-- The form of all goals.
 pub form-any : (R : ℕ → ℕ → Bool) (n : ℕ) → Strict R (Goals n) → NoN R (Goals n) → 1 ≤ n → HouseForm R n (formAny R n)
-form-any R n o free h =
-    let inside : (i : ℕ) → Member i (upFrom 1 n) → Goals n i = λ i m. let t = member-up n 1 i m in (t .0, omega (arith, t .1)) in
-    let back : (i : ℕ) → Goals n i → Member i (upFrom 1 n) = λ i g. up-member n 1 i (g .0) (omega (arith, g .1)) in
-    let f = form-list-any R (Goals n) o free (upFrom 1 n) (up-distinct n 1) inside 1 (back 1 (omega arith, h)) in
-    let c : (i : ℕ) → In i (formAny R n) ↔ Goals n i = λ i. (λ p. inside i (f .covers i .0 p), λ p. f .covers i .1 (back i p)) in
-    record {
-      uses = of-in n (formAny R n) (fits-once R (formAny R n) (f .fits)) c;
-      order = λ i j p q. fits-before R (formAny R n) (f .fits) i j (c i .1 p) (c j .1 q);
-      house = f .house;
-    }
-
--- so a strict order on them has an expression exactly if it has no N.
-pub has-expression-any : (R : ℕ → ℕ → Bool) (n : ℕ) → Strict R (Goals n) → 1 ≤ n → ((e : Expr) × UsesOnce n e × HasOrder R n e) ↔ NoN R (Goals n)
-has-expression-any R n o h = (
-  (λ x. order-no-n R n (x .0) (x .1) (x .2)),
-  λ free. let f = form-any R n o free h in (formAny R n, f .uses, f .order),
-)
+form-any R n o free h = form-house R n (formAny R n) (all-pass R n (formAny R n) (form-on-any R n o free (λ _. true) 1 (omega arith, h) refl))

@@ -11,9 +11,9 @@ use native.Mathlib.Decide.{decLt}
 use borrow.Author.Tests.{leb-true, le-leb}
 use Rattle.expression.specs.Expr.{Expr, goal, join, Members, one, more, times, timesM, stands, standsM, before, beforeM, Once}
 use Rattle.expression.specs.Induced.{listed, members, At, Part, itself, inside, Holds, Innermost, Sequence, Earlier, Before}
-use Rattle.expression.proofs.Fits.{In, InM}
+use Rattle.expression.proofs.Fits.{InM}
 use Rattle.expression.proofs.Bools.{test, or-true as or-cases, and-true as and-both}
-use Rattle.expression.proofs.Spec.{in-times, in-timesM, timesM-in, stands-in, in-stands, in-standsM}
+use Rattle.expression.proofs.Spec.{timesM-in, in-stands}
 
 -- ---- members and what they hold
 -- a number that stands in members stands in one of them

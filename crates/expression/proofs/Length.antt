@@ -14,7 +14,7 @@ use Rattle.expression.specs.Expr.{Expr, goal, join, Members, one, more, 
 use Rattle.expression.specs.Text.{number, mark, inner, run, text}
 use Rattle.expression.proofs.Fits.{In, InM}
 use Rattle.expression.proofs.Bools.{by-test}
-use Rattle.expression.proofs.Theorems.{in-range, uses-in}
+use Rattle.expression.proofs.Uses.{in-range, uses-in}
 
 -- what the goals of e weigh together
 abbrev mutual

@@ -9,10 +9,11 @@ pub mod Insert
 pub mod Exists
 pub mod Spec
 pub mod Induced
-pub mod Theorems
+pub mod Uses
 pub mod Split
 pub mod Length
 pub mod Search
 pub mod Closure
 pub mod Restore
 pub mod Arrange
+pub mod Theorems

@@ -47,7 +47,7 @@ stands-in e i h = times-in e i (leb-true 1 (times e i) h)
 pub in-stands : (e : Expr) (i : ℕ) → In i e → stands e i ≡ true
 in-stands e i p = le-leb 1 (times e i) (in-times e i p)
 
-pub in-standsM : (ms : Members) (i : ℕ) → InM i ms → standsM ms i ≡ true
+in-standsM : (ms : Members) (i : ℕ) → InM i ms → standsM ms i ≡ true
 in-standsM ms i p = le-leb 1 (timesM ms i) (in-timesM ms i p)
 
 out-stands : (e : Expr) (i : ℕ) → (In i e → ⊥) → stands e i ≡ false

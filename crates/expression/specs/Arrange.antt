@@ -65,4 +65,4 @@ module _ (R : ℕ → ℕ → Bool) where
 
   -- The form of the goals 1 to n.
   abbrev pub formAny : ℕ → Expr
-  formAny n = formList (upFrom 1 n)
+  formAny n = formOnAny n (λ _. true)
