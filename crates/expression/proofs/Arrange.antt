@@ -1,5 +1,4 @@
 -- T2 for any strict order, also against the numbers: an order without an N has a house form, `formList` of any list without repetition.
--- Assumes nothing.
 use mathlib.Core.Path.{_≡_, refl, sym, ap, _∙_, subst, subst₂}
 use mathlib.Core.Bool.{Bool, true, false, true≢false}
 use mathlib.Core.List.{List, [], _∷_}
@@ -8,7 +7,7 @@ use Prim.Native.Nat.{ℕ, zero, suc, _≤_, _<_}
 use native.Mathlib.Omega.{arith}
 use native.Mathlib.Decide.{decLe}
 use lib.ListN.{length}
-use Rattle.expression.specs.Expr.{Expr, goal, join, Members, one, more, UsesOnce, HasOrder, Goals, HouseForm, NoN, Order}
+use Rattle.expression.specs.Expr.{Expr, goal, join, Members, one, more, Goals, HouseForm, NoN, Order}
 use Rattle.expression.specs.Form.{form, chosen, upFrom}
 use Rattle.expression.specs.Arrange.{Strict, rename, renameM, at, row, along, place, arrange, formRow, formList, formOnAny, formAny}
 use Rattle.expression.proofs.Fits.{In, InM, Apart, Cross, Fits, FitsM}

@@ -1,5 +1,4 @@
 -- T2: an order without an N has a house form: `formOf` of any ascending list of goals.
--- Assumes nothing.
 use mathlib.Core.Path.{_≡_, refl, sym, ap, _∙_, subst}
 use mathlib.Core.Bool.{Bool, true, true≢false}
 use mathlib.Core.List.{List, [], _∷_}

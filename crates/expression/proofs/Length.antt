@@ -1,5 +1,4 @@
 -- T4: how long the text of an expression is. House form is not needed for the bound.
--- Assumes nothing.
 use mathlib.Core.Path.{_≡_, refl, sym, ap, _∙_}
 use mathlib.Core.Bool.{Bool, cond}
 use mathlib.Core.List.{[], _∷_, _++_}

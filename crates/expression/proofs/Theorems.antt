@@ -6,7 +6,7 @@
 --     T4, short           text-fits: at most 146 bytes for up to 32 goals; text-longest: 146 are reached
 --     restore             restore-times, restore-before, restore-house, restore-same, restore-eq
 use mathlib.Core.Path.{_≡_, refl, sym, ap, _∙_}
-use mathlib.Core.Bool.{Bool, true, false, _&&_, _||_, cond, true≢false, or-true}
+use mathlib.Core.Bool.{Bool, true, _&&_, _||_, cond, true≢false, or-true}
 use mathlib.Core.Logic.{⊎-elim, _↔_}
 use Prim.Native.Nat.{ℕ, _≤_, _<_, _%_}
 use native.Mathlib.Omega.{arith}

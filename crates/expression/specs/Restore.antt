@@ -1,5 +1,5 @@
--- House form restored: nested joins of one kind are made one, and the members of a group are sorted by their smallest goals.
--- Assumes nothing.
+-- House form restored, for an expression in which no number stands twice: nested joins of one kind are made one, and the members of a group are sorted by their smallest
+-- goals. Goals and order stay (`restore-times`, `restore-before` in `proofs/Theorems.antt`).
 use mathlib.Core.Bool.{Bool, _||_, cond, Bool·beq}
 use lib.Dec.{leb}
 use Rattle.expression.specs.Expr.{Expr, goal, join, Members, one, more, least}
