@@ -12,8 +12,9 @@ use Rattle.expression.specs.Form.{form, chosen, upFrom}
 use Rattle.expression.specs.Arrange.{Strict, rename, renameM, at, row, along, place, arrange, formRow, formList, formOnAny, formAny}
 use Rattle.expression.proofs.Fits.{In, InM, Apart, Cross, Fits, FitsM}
 use Rattle.expression.proofs.Bools.{test, by-test}
-use Rattle.expression.proofs.Exists.{Form, form-on, Member, chosen-member, member-chosen, member-up, up-member}
+use Rattle.expression.proofs.Exists.{Form, form-set, form-on, Member, chosen-member, chosen-goals, member-up}
 use Rattle.expression.proofs.Restore.{restored}
+use Rattle.expression.proofs.Search.{is-n, n-is}
 use Rattle.expression.proofs.Uses.{form-house, all-pass}
 
 -- ---- other numbers
@@ -173,20 +174,7 @@ module _ (R : ℕ → ℕ → Bool) where
       free′ : NoN (along R l) (Goals (length l))
       free′ a b c e ha hb hc he x =
           free (row l a) (row l b) (row l c) (row l e) (s (row l a) (in-row a ha)) (s (row l b) (in-row b hb)) (s (row l c) (in-row c hc)) (s (row l e) (in-row e he))
-          (record {
-            ac = x .ac;
-            bc = x .bc;
-            bd = x .bd;
-            ab = x .ab;
-            ba = x .ba;
-            ad = x .ad;
-            da = x .da;
-            cd = x .cd;
-            dc = x .dc;
-            ca = x .ca;
-            cb = x .cb;
-            db = x .db;
-          })
+          (is-n R (n-is (along R l) x))
 
       differ : (i j : ℕ) → Goals (length l) i → Goals (length l) j → row l i ≡ row l j → i ≡ j
       differ zero j h g t = absurd (omega (arith, h .0))
@@ -217,13 +205,9 @@ module _ (R : ℕ → ℕ → Bool) where
     -- The form of the numbers of a list.
     pub form-list-any : NoN R S → (l : List ℕ) → Distinct l → ((i : ℕ) → Member i l → S i) → (i : ℕ) → Member i l → Form R (λ i. Member i l) (formList R l)
     form-list-any free l d s i h =
-        let f = form-row free (arrange R l) (arrange-distinct l d) (λ i m. s i (arrange-member l i .0 m)) (arrange-row l s)
-        (let x = member-at (arrange R l) i (arrange-member l i .1 h) in omega (arith, x .1)) in
-        record {
-          covers = λ i. (λ p. arrange-member l i .0 (f .covers i .0 p), λ p. f .covers i .1 (arrange-member l i .1 p));
-          fits = f .fits;
-          house = f .house;
-        }
+        form-set (arrange-member l)
+        (form-row free (arrange R l) (arrange-distinct l d) (λ i m. s i (arrange-member l i .0 m)) (arrange-row l s)
+        (let x = member-at (arrange R l) i (arrange-member l i .1 h) in omega (arith, x .1)))
 
 up-distinct : (c a : ℕ) → Distinct (upFrom a c)
 up-distinct zero a = tt
@@ -237,12 +221,9 @@ chosen-distinct p (x ∷ l) d = by-test Distinct (p x) (λ t. (λ h. d .0 (chose
 pub form-on-any : (R : ℕ → ℕ → Bool) (n : ℕ) → Strict R (Goals n) → NoN R (Goals n) → (p : ℕ → Bool) → (i : ℕ) → Goals n i → p i ≡ true
     → Form R (λ i. Goals n i × (p i ≡ true)) (formOnAny R n p)
 form-on-any R n o free p i gi hi =
-    let inside : (i : ℕ) → Member i (chosen p (upFrom 1 n)) → Goals n i × (p i ≡ true)
-    = λ i h. let r = chosen-member p (upFrom 1 n) i h in let t = member-up n 1 i (r .0) in ((t .0, omega (arith, t .1)), r .1) in
-    let back : (i : ℕ) → Goals n i × (p i ≡ true) → Member i (chosen p (upFrom 1 n))
-    = λ i h. member-chosen p (upFrom 1 n) i (up-member n 1 i (h .0 .0) (omega (arith, h .0 .1))) (h .1) in
-    let f = form-list-any R (Goals n) o free (chosen p (upFrom 1 n)) (chosen-distinct p (upFrom 1 n) (up-distinct n 1)) (λ i h. inside i h .0) i (back i (gi, hi)) in
-    record { covers = λ i. (λ h. inside i (f .covers i .0 h), λ h. f .covers i .1 (back i h)); fits = f .fits; house = f .house }
+    form-set (chosen-goals n p)
+    (form-list-any R (Goals n) o free (chosen p (upFrom 1 n)) (chosen-distinct p (upFrom 1 n) (up-distinct n 1)) (λ i h. chosen-goals n p i .0 h .0) i
+    (chosen-goals n p i .1 (gi, hi)))
 
 -- The form of all goals.
 pub form-any : (R : ℕ → ℕ → Bool) (n : ℕ) → Strict R (Goals n) → NoN R (Goals n) → 1 ≤ n → HouseForm R n (formAny R n)

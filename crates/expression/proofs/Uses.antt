@@ -9,7 +9,7 @@ use borrow.Author.Tests.{leb-true, le-leb}
 use Rattle.expression.specs.Expr.{Expr, times, Once, UsesOnce, Goals, HasOrder, HouseForm}
 use Rattle.expression.proofs.Fits.{In, Fits}
 use Rattle.expression.proofs.Bools.{test, and-true}
-use Rattle.expression.proofs.Exists.{Form}
+use Rattle.expression.proofs.Exists.{Form, form-set}
 use Rattle.expression.proofs.Spec.{in-times, times-in, fits-once, fits-before, before-fits, cond-le}
 
 -- ---- the numbers from 1 to n
@@ -71,4 +71,4 @@ module _ (R : ℕ → ℕ → Bool) (n : ℕ) (e : Expr) where
 
   -- the test that all goals pass
   pub all-pass : Form R (λ i. Goals n i × (true ≡ true)) e → Form R (Goals n) e
-  all-pass f = record { covers = λ i. (λ p. f .covers i .0 p .0, λ p. f .covers i .1 (p, refl)); fits = f .fits; house = f .house }
+  all-pass f = form-set (λ i. (λ p. p .0, λ p. (p, refl))) f
