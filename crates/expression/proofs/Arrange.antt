@@ -1,5 +1,4 @@
 -- T2 for any strict order, also against the numbers: an order without an N has a house form, `formList` of any list without repetition.
--- Assumes nothing.
 use mathlib.Core.Path.{_≡_, refl, sym, ap, _∙_, subst, subst₂}
 use mathlib.Core.Bool.{Bool, true, false, true≢false}
 use mathlib.Core.List.{List, [], _∷_}
@@ -8,15 +7,15 @@ use Prim.Native.Nat.{ℕ, zero, suc, _≤_, _<_}
 use native.Mathlib.Omega.{arith}
 use native.Mathlib.Decide.{decLe}
 use lib.ListN.{length}
-use Rattle.expression.specs.Expr.{Expr, goal, join, Members, one, more, UsesOnce, HasOrder, Goals, HouseForm, NoN, Order}
+use Rattle.expression.specs.Expr.{Expr, goal, join, Members, one, more, Goals, HouseForm, NoN, Order}
 use Rattle.expression.specs.Form.{form, chosen, upFrom}
 use Rattle.expression.specs.Arrange.{Strict, rename, renameM, at, row, along, place, arrange, formRow, formList, formOnAny, formAny}
 use Rattle.expression.proofs.Fits.{In, InM, Apart, Cross, Fits, FitsM}
 use Rattle.expression.proofs.Bools.{test, by-test}
-use Rattle.expression.proofs.Exists.{Form, Member, chosen-member, member-chosen, member-up, up-member}
+use Rattle.expression.proofs.Exists.{Form, form-set, form-on, Member, chosen-member, chosen-goals, member-up}
 use Rattle.expression.proofs.Restore.{restored}
-use Rattle.expression.proofs.Spec.{fits-once, fits-before}
-use Rattle.expression.proofs.Theorems.{of-in, uses-in, in-uses, order-fits, order-no-n, form-is}
+use Rattle.expression.proofs.Search.{is-n, n-is}
+use Rattle.expression.proofs.Uses.{form-house, all-pass}
 
 -- ---- other numbers
 module _ (f : ℕ → ℕ) where
@@ -175,20 +174,7 @@ module _ (R : ℕ → ℕ → Bool) where
       free′ : NoN (along R l) (Goals (length l))
       free′ a b c e ha hb hc he x =
           free (row l a) (row l b) (row l c) (row l e) (s (row l a) (in-row a ha)) (s (row l b) (in-row b hb)) (s (row l c) (in-row c hc)) (s (row l e) (in-row e he))
-          (record {
-            ac = x .ac;
-            bc = x .bc;
-            bd = x .bd;
-            ab = x .ab;
-            ba = x .ba;
-            ad = x .ad;
-            da = x .da;
-            cd = x .cd;
-            dc = x .dc;
-            ca = x .ca;
-            cb = x .cb;
-            db = x .db;
-          })
+          (is-n R (n-is (along R l) x))
 
       differ : (i j : ℕ) → Goals (length l) i → Goals (length l) j → row l i ≡ row l j → i ≡ j
       differ zero j h g t = absurd (omega (arith, h .0))
@@ -200,17 +186,17 @@ module _ (R : ℕ → ℕ → Bool) where
           let n = length l in
           let f = row l in
           let e = form (along R l) (length l) in
-          let h = form-is (along R l) (length l) order free′ some in
-          let g = rename-fits f R (Goals n) differ e (uses-in n e (h .uses)) (order-fits (along R l) n e (h .uses) (h .order)) in
+          let h = all-pass (along R l) n e (form-on (along R l) n order free′ (λ _. true) 1 (omega arith, some) refl) in
+          let g = rename-fits f R (Goals n) differ e (λ i p. h .covers i .0 p) (h .fits) in
           let c = restored R (rename f e) g in
           record {
             covers =
                 λ i. (
-                  (λ p. let x = rename-in f e i (c .covers i .0 p) in subst (λ z. Member z l) (sym (x .2)) (in-row (x .0) (uses-in n e (h .uses) (x .0) (x .1)))),
+                  (λ p. let x = rename-in f e i (c .covers i .0 p) in subst (λ z. Member z l) (sym (x .2)) (in-row (x .0) (h .covers (x .0) .0 (x .1)))),
                   (λ p.
                       let x = member-at l i p in
                       c .covers i .1
-                      (subst (λ z. In z (rename f e)) (sym (x .2)) (in-rename f e (suc (x .0)) (in-uses n e (h .uses) (suc (x .0)) (omega arith, omega (arith, x .1)))))),
+                      (subst (λ z. In z (rename f e)) (sym (x .2)) (in-rename f e (suc (x .0)) (h .covers (suc (x .0)) .1 (omega arith, omega (arith, x .1)))))),
                 );
             fits = c .fits;
             house = c .house;
@@ -219,13 +205,9 @@ module _ (R : ℕ → ℕ → Bool) where
     -- The form of the numbers of a list.
     pub form-list-any : NoN R S → (l : List ℕ) → Distinct l → ((i : ℕ) → Member i l → S i) → (i : ℕ) → Member i l → Form R (λ i. Member i l) (formList R l)
     form-list-any free l d s i h =
-        let f = form-row free (arrange R l) (arrange-distinct l d) (λ i m. s i (arrange-member l i .0 m)) (arrange-row l s)
-        (let x = member-at (arrange R l) i (arrange-member l i .1 h) in omega (arith, x .1)) in
-        record {
-          covers = λ i. (λ p. arrange-member l i .0 (f .covers i .0 p), λ p. f .covers i .1 (arrange-member l i .1 p));
-          fits = f .fits;
-          house = f .house;
-        }
+        form-set (arrange-member l)
+        (form-row free (arrange R l) (arrange-distinct l d) (λ i m. s i (arrange-member l i .0 m)) (arrange-row l s)
+        (let x = member-at (arrange R l) i (arrange-member l i .1 h) in omega (arith, x .1)))
 
 up-distinct : (c a : ℕ) → Distinct (upFrom a c)
 up-distinct zero a = tt
@@ -239,29 +221,10 @@ chosen-distinct p (x ∷ l) d = by-test Distinct (p x) (λ t. (λ h. d .0 (chose
 pub form-on-any : (R : ℕ → ℕ → Bool) (n : ℕ) → Strict R (Goals n) → NoN R (Goals n) → (p : ℕ → Bool) → (i : ℕ) → Goals n i → p i ≡ true
     → Form R (λ i. Goals n i × (p i ≡ true)) (formOnAny R n p)
 form-on-any R n o free p i gi hi =
-    let inside : (i : ℕ) → Member i (chosen p (upFrom 1 n)) → Goals n i × (p i ≡ true)
-    = λ i h. let r = chosen-member p (upFrom 1 n) i h in let t = member-up n 1 i (r .0) in ((t .0, omega (arith, t .1)), r .1) in
-    let back : (i : ℕ) → Goals n i × (p i ≡ true) → Member i (chosen p (upFrom 1 n))
-    = λ i h. member-chosen p (upFrom 1 n) i (up-member n 1 i (h .0 .0) (omega (arith, h .0 .1))) (h .1) in
-    let f = form-list-any R (Goals n) o free (chosen p (upFrom 1 n)) (chosen-distinct p (upFrom 1 n) (up-distinct n 1)) (λ i h. inside i h .0) i (back i (gi, hi)) in
-    record { covers = λ i. (λ h. inside i (f .covers i .0 h), λ h. f .covers i .1 (back i h)); fits = f .fits; house = f .house }
+    form-set (chosen-goals n p)
+    (form-list-any R (Goals n) o free (chosen p (upFrom 1 n)) (chosen-distinct p (upFrom 1 n) (up-distinct n 1)) (λ i h. chosen-goals n p i .0 h .0) i
+    (chosen-goals n p i .1 (gi, hi)))
 
--- ---- An order on the goals 1 to n with no N has a house form,
+-- The form of all goals.
 pub form-any : (R : ℕ → ℕ → Bool) (n : ℕ) → Strict R (Goals n) → NoN R (Goals n) → 1 ≤ n → HouseForm R n (formAny R n)
-form-any R n o free h =
-    let inside : (i : ℕ) → Member i (upFrom 1 n) → Goals n i = λ i m. let t = member-up n 1 i m in (t .0, omega (arith, t .1)) in
-    let back : (i : ℕ) → Goals n i → Member i (upFrom 1 n) = λ i g. up-member n 1 i (g .0) (omega (arith, g .1)) in
-    let f = form-list-any R (Goals n) o free (upFrom 1 n) (up-distinct n 1) inside 1 (back 1 (omega arith, h)) in
-    let c : (i : ℕ) → In i (formAny R n) ↔ Goals n i = λ i. (λ p. inside i (f .covers i .0 p), λ p. f .covers i .1 (back i p)) in
-    record {
-      uses = of-in n (formAny R n) (fits-once R (formAny R n) (f .fits)) c;
-      order = λ i j p q. fits-before R (formAny R n) (f .fits) i j (c i .1 p) (c j .1 q);
-      house = f .house;
-    }
-
--- so a strict order on them has an expression exactly if it has no N.
-pub has-expression-any : (R : ℕ → ℕ → Bool) (n : ℕ) → Strict R (Goals n) → 1 ≤ n → ((e : Expr) × UsesOnce n e × HasOrder R n e) ↔ NoN R (Goals n)
-has-expression-any R n o h = (
-  (λ x. order-no-n R n (x .0) (x .1) (x .2)),
-  λ free. let f = form-any R n o free h in (formAny R n, f .uses, f .order),
-)
+form-any R n o free h = form-house R n (formAny R n) (all-pass R n (formAny R n) (form-on-any R n o free (λ _. true) 1 (omega arith, h) refl))

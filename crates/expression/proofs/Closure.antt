@@ -1,5 +1,4 @@
 -- `closed` is the chains of waits, and it is an order where each wait goes from a smaller number to a larger.
--- Assumes nothing.
 use mathlib.Core.Path.{_≡_, refl, sym, ap, ap₂, _∙_, subst}
 use mathlib.Core.Bool.{Bool, true, false, _&&_, _||_, or-true, or-false as or-none, and-false as and-none}
 use mathlib.Core.Logic.{_⊎_, inl, inr, ⊎-elim}

@@ -1,5 +1,4 @@
 -- T2: an order without an N has a house form: `formOf` of any ascending list of goals.
--- Assumes nothing.
 use mathlib.Core.Path.{_≡_, refl, sym, ap, _∙_, subst}
 use mathlib.Core.Bool.{Bool, true, true≢false}
 use mathlib.Core.List.{List, [], _∷_}
@@ -20,6 +19,10 @@ pub record Form (R : ℕ → ℕ → Bool) (P : ℕ → Type 0) (e : Expr) : Typ
   pub fits : Fits R e
   pub house : House e
 
+-- a form over a set is one over the same set said otherwise
+pub form-set : {R : ℕ → ℕ → Bool} {P Q : ℕ → Type 0} {e : Expr} → ((i : ℕ) → P i ↔ Q i) → Form R P e → Form R Q e
+form-set s f = record { covers = λ i. (λ h. s i .0 (f .covers i .0 h), λ h. f .covers i .1 (s i .1 h)); fits = f .fits; house = f .house }
+
 -- ---- ascending lists
 abbrev pub Member : ℕ → List ℕ → Type 0
 Member i [] = ⊥
@@ -35,8 +38,7 @@ module _ (R : ℕ → ℕ → Bool) (S : ℕ → Type 0) (o : Order R S) (none :
   -- g is the largest goal of e
   build-form : (l : List ℕ) (P : ℕ → Type 0) (e : Expr) (g : ℕ) → Form R P e → ((i : ℕ) → P i → S i × (i ≤ g)) → Above g l → ((i : ℕ) → Member i l → S i)
       → Form R (λ i. P i ⊎ Member i l) (build R e l)
-  build-form [] P e g f b a m =
-      record { covers = λ i. (λ h. inl (f .covers i .0 h), ⊎-elim (f .covers i .1) (λ h. absurd h)); fits = f .fits; house = f .house }
+  build-form [] P e g f b a m = form-set (λ i. (inl, ⊎-elim (λ h. h) (λ h. absurd h))) f
   build-form (x ∷ l) P e g f b a m =
       let c = inserted R S o none x (m x (inl refl)) e (f .fits) (f .house)
       (λ i h. let t = b i (f .covers i .0 h) in (t .0, omega (arith, t .1, a .0))) in
@@ -50,18 +52,11 @@ module _ (R : ℕ → ℕ → Bool) (S : ℕ → Type 0) (o : Order R S) (none :
         fits = c .fits;
         house = c .house;
       } in
-      let r = build-form l (λ i. P i ⊎ (i ≡ x)) (insert R x e) x f′
+      form-set
+      (λ i. (⊎-elim (⊎-elim inl (λ s. inr (inl s))) (λ s. inr (inr s)), ⊎-elim (λ s. inl (inl s)) (⊎-elim (λ s. inl (inr s)) inr)))
+      (build-form l (λ i. P i ⊎ (i ≡ x)) (insert R x e) x f′
       (λ i. ⊎-elim (λ h. let t = b i h in (t .0, omega (arith, t .1, a .0))) (λ h. (subst S (sym h) (m x (inl refl)), omega arith)))
-      (a .1) (λ i h. m i (inr h)) in
-      record {
-        covers =
-            λ i. (
-              (λ h. ⊎-elim (⊎-elim inl (λ s. inr (inl s))) (λ s. inr (inr s)) (r .covers i .0 h)),
-              λ h. r .covers i .1 (⊎-elim (λ s. inl (inl s)) (⊎-elim (λ s. inl (inr s)) inr) h),
-            );
-        fits = r .fits;
-        house = r .house;
-      }
+      (a .1) (λ i h. m i (inr h)))
 
   pub form-of : (g : ℕ) (l : List ℕ) → Above g l → ((i : ℕ) → Member i (g ∷ l) → S i) → Form R (λ i. Member i (g ∷ l)) (formOf R (g ∷ l))
   form-of g l a m =
@@ -114,14 +109,16 @@ form-list : (R : ℕ → ℕ → Bool) (S : ℕ → Type 0) → Order R S → No
 form-list R S o none [] a m i h = absurd h
 form-list R S o none (g ∷ l) a m i h = form-of R S o none g l (a .1) m
 
+pub chosen-goals : (n : ℕ) (p : ℕ → Bool) (i : ℕ) → Member i (chosen p (upFrom 1 n)) ↔ (Goals n i × (p i ≡ true))
+chosen-goals n p i = (
+  (λ h. let r = chosen-member p (upFrom 1 n) i h in let t = member-up n 1 i (r .0) in ((t .0, omega (arith, t .1)), r .1)),
+  (λ h. member-chosen p (upFrom 1 n) i (up-member n 1 i (h .0 .0) (omega (arith, h .0 .1))) (h .1)),
+)
+
 -- The form of a set of goals that is not empty, for any n and any test p.
 pub form-on : (R : ℕ → ℕ → Bool) (n : ℕ) → Order R (Goals n) → NoN R (Goals n) → (p : ℕ → Bool) → (i : ℕ) → Goals n i → p i ≡ true
     → Form R (λ i. Goals n i × (p i ≡ true)) (formOn R n p)
 form-on R n o none p i gi hi =
-    let inside : (i : ℕ) → Member i (chosen p (upFrom 1 n)) → Goals n i × (p i ≡ true)
-    = λ i h. let r = chosen-member p (upFrom 1 n) i h in let t = member-up n 1 i (r .0) in ((t .0, omega arith), r .1) in
-    let back : (i : ℕ) → Goals n i × (p i ≡ true) → Member i (chosen p (upFrom 1 n))
-    = λ i h. member-chosen p (upFrom 1 n) i (up-member n 1 i (h .0 .0) (omega arith)) (h .1) in
-    let f = form-list R (Goals n) o none (chosen p (upFrom 1 n)) (above-chosen p 0 (upFrom 1 n) (above-up n 1 0 (omega arith))) (λ i h. inside i h .0) i
-    (back i (gi, hi)) in
-    record { covers = λ i. (λ h. inside i (f .covers i .0 h), λ h. f .covers i .1 (back i h)); fits = f .fits; house = f .house }
+    form-set (chosen-goals n p)
+    (form-list R (Goals n) o none (chosen p (upFrom 1 n)) (above-chosen p 0 (upFrom 1 n) (above-up n 1 0 (omega arith))) (λ i h. chosen-goals n p i .0 h .0) i
+    (chosen-goals n p i .1 (gi, hi)))

@@ -1,5 +1,4 @@
 -- How an expression lies to a relation R on its goals, said by recursion on the expression. The theorems are proved about `Fits`; `Spec.antt` ties it to `times` and `before`.
--- Assumes nothing.
 use mathlib.Core.Path.{_≡_, refl, sym, ap₂, _∙_, subst}
 use mathlib.Core.Bool.{Bool, false, not, _||_, or-false}
 use mathlib.Core.Logic.{_⊎_, inl, inr, _≢_}

@@ -1,5 +1,4 @@
 -- T2, the step: `insert` puts a goal that is larger than all others into a house form that fits R, and the result is a house form that fits R.
--- Assumes nothing.
 use mathlib.Core.Path.{_≡_, refl, sym, ap, _∙_, subst, subst₂}
 use mathlib.Core.Bool.{Bool, true, false, not, true≢false, false≢true, Bool·not-not}
 use mathlib.Core.Logic.{_⊎_, inl, inr, ⊎-elim, _↔_}

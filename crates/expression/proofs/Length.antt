@@ -1,5 +1,4 @@
 -- T4: how long the text of an expression is. House form is not needed for the bound.
--- Assumes nothing.
 use mathlib.Core.Path.{_≡_, refl, sym, ap, _∙_}
 use mathlib.Core.Bool.{Bool, cond}
 use mathlib.Core.List.{[], _∷_, _++_}
@@ -14,7 +13,7 @@ use Rattle.expression.specs.Expr.{Expr, goal, join, Members, one, more, 
 use Rattle.expression.specs.Text.{number, mark, inner, run, text}
 use Rattle.expression.proofs.Fits.{In, InM}
 use Rattle.expression.proofs.Bools.{by-test}
-use Rattle.expression.proofs.Theorems.{in-range, uses-in}
+use Rattle.expression.proofs.Uses.{in-range, uses-in}
 
 -- what the goals of e weigh together
 abbrev mutual

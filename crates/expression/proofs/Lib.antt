@@ -8,10 +8,12 @@ pub mod Suits
 pub mod Insert
 pub mod Exists
 pub mod Spec
-pub mod Theorems
+pub mod Induced
+pub mod Uses
 pub mod Split
 pub mod Length
 pub mod Search
 pub mod Closure
 pub mod Restore
 pub mod Arrange
+pub mod Theorems

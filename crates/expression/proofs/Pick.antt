@@ -1,5 +1,4 @@
 -- The members that pass a test: which goals stand in them, and that they fit R and the house form as all of them do.
--- Assumes nothing.
 use mathlib.Core.Path.{_≡_, sym, ap, _∙_}
 use mathlib.Core.Bool.{Bool, true, false, not, true≢false, Bool·not-not}
 use mathlib.Core.Logic.{_⊎_, inl, inr, ⊎-elim}

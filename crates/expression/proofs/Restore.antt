@@ -1,15 +1,13 @@
 -- `restore` keeps the goals and the order and gives house form; a house form it leaves as it is.
--- Assumes nothing.
 use mathlib.Core.Path.{_≡_, refl, sym, ap, ap₂, _∙_, subst}
-use mathlib.Core.Bool.{Bool, true, false, _||_, cond, Bool·beq, true≢false, false≢true}
+use mathlib.Core.Bool.{Bool, true, false, cond, Bool·beq, true≢false, false≢true}
 use mathlib.Core.Logic.{_⊎_, inl, inr, ⊎-elim, _↔_}
 use Prim.Native.Nat.{ℕ, _+_, _≤_, _<_}
 use native.Mathlib.Omega.{arith}
-use lib.Dec.{leb}
 use borrow.Author.Tests.{leb-true, le-leb}
 use Rattle.expression.specs.Expr.{Expr, goal, join, Members, one, more, times, timesM, before, Once, NoJoin, Ascend, House, HouseM, least}
 use Rattle.expression.specs.Form.{joined}
-use Rattle.expression.specs.Restore.{parts, put, merge, restore, restoreM}
+use Rattle.expression.specs.Restore.{parts, ahead, put, merge, restore, restoreM}
 use Rattle.expression.proofs.Fits.{In, InM, Apart, Cross, Fits, FitsM}
 use Rattle.expression.proofs.Least.{least-in, least-le, leastM-le}
 use Rattle.expression.proofs.Pick.{ascend, joined-in, in-joined, joined-fits, joined-house}
@@ -21,9 +19,9 @@ use Rattle.expression.proofs.Spec.{in-times, times-in, fits-before, bef
 -- ---- which goals stand in what comes out
 pub put-in : (k : Bool) (e : Expr) (ms : Members) (i : ℕ) → InM i (put k e ms) ↔ (In i e ⊎ InM i ms)
 put-in k e (one m) i =
-    by-test (λ z. InM i z ↔ (In i e ⊎ In i m)) (k || leb (least e) (least m)) (λ t. (λ h. h, λ h. h)) (λ t. (⊎-elim inr inl, ⊎-elim inr inl))
+    by-test (λ z. InM i z ↔ (In i e ⊎ In i m)) (ahead k e m) (λ t. (λ h. h, λ h. h)) (λ t. (⊎-elim inr inl, ⊎-elim inr inl))
 put-in k e (more m ms) i =
-    by-test (λ z. InM i z ↔ (In i e ⊎ (In i m ⊎ InM i ms))) (k || leb (least e) (least m))
+    by-test (λ z. InM i z ↔ (In i e ⊎ (In i m ⊎ InM i ms))) (ahead k e m)
     (λ t. (λ h. h, λ h. h))
     (λ t.
     let c = put-in k e ms i in
@@ -44,9 +42,9 @@ parts-in k (join h e ms) i = by-test (λ z. InM i z ↔ In i (join h e ms)) (Boo
 
 -- ---- how often: as often as before, also in an expression that uses a number twice
 put-times : (k : Bool) (e : Expr) (ms : Members) (i : ℕ) → timesM (put k e ms) i ≡ times e i + timesM ms i
-put-times k e (one m) i = by-test (λ z. timesM z i ≡ times e i + times m i) (k || leb (least e) (least m)) (λ t. refl) (λ t. omega arith)
+put-times k e (one m) i = by-test (λ z. timesM z i ≡ times e i + times m i) (ahead k e m) (λ t. refl) (λ t. omega arith)
 put-times k e (more m ms) i =
-    by-test (λ z. timesM z i ≡ times e i + (times m i + timesM ms i)) (k || leb (least e) (least m)) (λ t. refl) (λ t. omega (arith, put-times k e ms i))
+    by-test (λ z. timesM z i ≡ times e i + (times m i + timesM ms i)) (ahead k e m) (λ t. refl) (λ t. omega (arith, put-times k e ms i))
 
 merge-times : (k : Bool) (es ms : Members) (i : ℕ) → timesM (merge k es ms) i ≡ timesM es i + timesM ms i
 merge-times k (one e) ms i = put-times k e ms i
@@ -81,43 +79,45 @@ mutual
 
 -- ---- one more member, of which no goal stands in the others
 module _ (R : ℕ → ℕ → Bool) (k : Bool) where
-  -- in a group members may change places
-  turn : {P Q : ℕ → Type 0} → k ≡ false → Cross R k P Q → Cross R k Q P
-  turn t x i j p q = subst (λ b. Apart R b i j) (sym t) (apart-sym (subst (λ b. Apart R b j i) t (x j i q p)))
+  -- members change places only in a group, and there they may
+  turn : (e m : Expr) → ahead k e m ≡ false → Cross R k (λ i. In i e) (λ i. In i m) → Cross R k (λ i. In i m) (λ i. In i e)
+  turn e m t x i j p q =
+      let h : k ≡ false = or-parts k _ t .0 in
+      subst (λ b. Apart R b i j) (sym h) (apart-sym (subst (λ b. Apart R b j i) h (x j i q p)))
 
   pub put-fits : (e : Expr) (ms : Members) → Fits R e → FitsM R k ms → Cross R k (λ i. In i e) (λ i. InM i ms) → FitsM R k (put k e ms)
   put-fits e (one m) f g x =
-      by-test (FitsM R k) (k || leb (least e) (least m)) (λ t. (f, g, x))
-      (λ t. (g, f, turn {P = λ i. In i e} {Q = λ i. In i m} (or-parts k (leb (least e) (least m)) t .0) x))
+      by-test (FitsM R k) (ahead k e m) (λ t. (f, g, x))
+      (λ t. (g, f, turn e m t x))
   put-fits e (more m ms) f g x =
-      by-test (FitsM R k) (k || leb (least e) (least m)) (λ t. (f, g, x))
+      by-test (FitsM R k) (ahead k e m) (λ t. (f, g, x))
       (λ t. (
         g .0,
         put-fits e ms f (g .1) (λ i j p q. x i j p (inr q)),
         λ i j p q.
-            ⊎-elim (λ r. turn {P = λ i. In i e} {Q = λ i. In i m} (or-parts k (leb (least e) (least m)) t .0) (λ i j p q. x i j p (inl q)) i j p r) (λ r. g .2 i j p r)
+            ⊎-elim (λ r. turn e m t (λ i j p q. x i j p (inl q)) i j p r) (λ r. g .2 i j p r)
             (put-in k e ms j .0 q),
       ))
 
   -- the first of two has the smaller least goal, if their goals differ
-  front : (e m : Expr) → ((i : ℕ) → In i e → In i m → ⊥) → (k || leb (least e) (least m)) ≡ true → k ≡ false → least e < least m
+  front : (e m : Expr) → ((i : ℕ) → In i e → In i m → ⊥) → ahead k e m ≡ true → k ≡ false → least e < least m
   front e m d t h =
-      let g = leb-true (least e) (least m) (⊎-elim (λ r. absurd (true≢false (sym r ∙ h))) (λ r. r) (or-cases k (leb (least e) (least m)) t)) in
+      let g = leb-true (least e) (least m) (⊎-elim (λ r. absurd (true≢false (sym r ∙ h))) (λ r. r) (or-cases k _ t)) in
       let n : least e ≡ least m → ⊥ = λ q. d (least e) (least-in e) (subst (λ z. In z m) (sym q) (least-in m)) in
       omega arith
 
-  back : (e m : Expr) → (k || leb (least e) (least m)) ≡ false → least m < least e
+  back : (e m : Expr) → ahead k e m ≡ false → least m < least e
   back e m t =
-      let n : least e ≤ least m → ⊥ = λ q. true≢false (sym (le-leb (least e) (least m) q) ∙ or-parts k (leb (least e) (least m)) t .1) in
+      let n : least e ≤ least m → ⊥ = λ q. true≢false (sym (le-leb (least e) (least m) q) ∙ or-parts k _ t .1) in
       omega arith
 
   pub put-house : (e : Expr) (ms : Members) → House e → NoJoin k e → HouseM k ms → ((i : ℕ) → In i e → InM i ms → ⊥) → HouseM k (put k e ms)
   put-house e (one m) w n h d =
-      by-test (HouseM k) (k || leb (least e) (least m))
+      by-test (HouseM k) (ahead k e m)
       (λ t. (w, n, λ q. front e m d t q, h))
       (λ t. (h .0, h .1, λ q. back e m t, (w, n)))
   put-house e (more m ms) w n h d =
-      by-test (HouseM k) (k || leb (least e) (least m))
+      by-test (HouseM k) (ahead k e m)
       (λ t. (w, n, λ q. omega (arith, front e m (λ i p r. d i p (inl r)) t q, h .2 q), h))
       (λ t. (
         h .0,

@@ -1,5 +1,4 @@
 -- `Fits`, by which the theorems are proved, is what `times` and `before` say: no number stands twice, and the induced order is R.
--- Assumes nothing.
 use mathlib.Core.Path.{_≡_, refl, sym, ap₂, _∙_, subst}
 use mathlib.Core.Bool.{Bool, true, false, _&&_, _||_, cond, false≢true, or-false, and-false, and-true}
 use mathlib.Core.Logic.{_⊎_, inl, inr, ⊎-elim}

@@ -1,5 +1,4 @@
 -- What an algorithm that splits a set of goals finds: the part of the set that hangs together with its smallest goal is the first member of the form, and what is left is the form of the other members.
--- Assumes nothing.
 use mathlib.Core.Path.{_≡_, refl, sym, ap, _∙_}
 use mathlib.Core.Bool.{Bool, true, false, true≢false, false≢true}
 use mathlib.Core.Logic.{_⊎_, inl, inr, ⊎-elim, _↔_}

@@ -1,5 +1,4 @@
 -- A goal v is put into an expression: what `suits` says, and what follows where there is no N.
--- Assumes nothing.
 use mathlib.Core.Path.{_≡_, refl, sym, ap, _∙_}
 use mathlib.Core.Bool.{Bool, true, false, not, true≢false}
 use mathlib.Core.Logic.{inl, inr, ⊎-elim}

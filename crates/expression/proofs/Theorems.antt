@@ -1,74 +1,59 @@
--- The theorems on fork-join expressions, in the words of `specs/Expr.antt`.
--- Assumes nothing.
-use mathlib.Core.Path.{_≡_, refl, sym, ap, _∙_, subst}
-use mathlib.Core.Bool.{Bool, true, false, _&&_, _||_, cond, false≢true, or-true}
+-- The theorems on fork-join expressions, in the words of `specs/`. R is a relation on goals; T1 and T3 hold for any, T2 for any strict order.
+--     the order           before-is, innermost-is, innermost-unique: `before` is the order of the paper's sentence
+--     T1, sound           order-no-n, induced-no-n, no-four: an order with an N has no expression, and neither have the four goals alone
+--     T2, complete        form-any, form-is: an order without an N has a house form; has-expression-any, has-expression: with T1
+--     T3, unique          form-unique: only one
+--     T4, short           text-fits: at most 146 bytes for up to 32 goals; text-longest: 146 are reached
+--     restore             restore-times, restore-before, restore-house, restore-same, restore-eq
+use mathlib.Core.Path.{_≡_, refl, sym, ap, _∙_}
+use mathlib.Core.Bool.{Bool, true, _&&_, _||_, cond, true≢false, or-true}
 use mathlib.Core.Logic.{⊎-elim, _↔_}
-use Prim.Native.Nat.{ℕ, _≤_}
+use Prim.Native.Nat.{ℕ, _≤_, _<_, _%_}
 use native.Mathlib.Omega.{arith}
-use lib.Dec.{leb, eqb}
-use borrow.Author.Tests.{leb-true, le-leb, eq-eqb}
-use Rattle.expression.specs.Expr.{Expr, times, stands, Once, Induces, UsesOnce, Goals, HasOrder, HouseForm, N, NoN, Order}
+use lib.Dec.{eqb, ltb}
+use lib.ListN.{length}
+use borrow.Author.Tests.{eq-eqb, eqb-true, lt-ltb, ltb-true}
+use Rattle.expression.specs.Expr.{Expr, times, stands, before, Once, Induces, UsesOnce, UsesFour, Goals, HasOrder, House, HouseForm, N, NoN, Order}
+use Rattle.expression.specs.Induced.{Holds, Innermost, Before}
 use Rattle.expression.specs.Form.{form}
-use Rattle.expression.proofs.Fits.{In, Fits}
+use Rattle.expression.specs.Text.{text}
+use Rattle.expression.specs.Restore.{restore}
+use Rattle.expression.specs.Arrange.{Strict, formAny}
 use Rattle.expression.proofs.NoN.{no-n}
-use Rattle.expression.proofs.Unique.{unique}
 use Rattle.expression.proofs.Bools.{test, and-true}
 use Rattle.expression.proofs.Exists.{form-on}
-use Rattle.expression.proofs.Spec.{in-times, times-in, stands-in, in-stands, fits-once, fits-before, before-fits, cond-le}
+use Rattle.expression.proofs.Split.{form-eq}
+use Rattle.expression.proofs.Spec.{times-in, stands-in, in-stands, before-fits, cond-le}
+use Rattle.expression.proofs.Induced
+use Rattle.expression.proofs.Arrange
+use Rattle.expression.proofs.Length
+use Rattle.expression.proofs.Restore
+pub use Rattle.expression.proofs.Uses.{in-range, uses-once, uses-in, in-uses, of-in, order-fits, house-form, form-house, all-pass}
 
--- ---- the numbers from 1 to n
-pub in-range : (n i : ℕ) → Goals n i → (leb 1 i && leb i n) ≡ true
-in-range n i (h, g) = subst (λ b. (b && leb i n) ≡ true) (sym (le-leb 1 i h)) (le-leb i n g)
+-- ---- The order. What `before` computes is the order of the paper's sentence,
+pub before-is : (e : Expr) → Once e → (i j : ℕ) → (before e i j ≡ true) ↔ Before e i j
+before-is e u i j = Induced.before-is i j e u
 
-of-range : (n i : ℕ) → (leb 1 i && leb i n) ≡ true → Goals n i
-of-range n i h = let t = and-true (leb 1 i) (leb i n) h in (leb-true 1 i (t .0), leb-true i n (t .1))
+-- and "the" innermost part that holds two goals is right: there is one, and just one.
+pub innermost-is : (e : Expr) (i j : ℕ) → Holds e i → Holds e j → (p : Expr) × Innermost e i j p
+innermost-is e i j = Induced.innermost-is i j e
 
-module _ (n : ℕ) (e : Expr) where
-  pub uses-once : UsesOnce n e → Once e
-  uses-once u i = omega (arith, u i, cond-le (leb 1 i && leb i n))
+pub innermost-unique : (e : Expr) (i j : ℕ) → Once e → (p q : Expr) → Innermost e i j p → Innermost e i j q → p ≡ q
+innermost-unique e i j u p q = Induced.innermost-unique i j e p q u
 
-  pub uses-in : UsesOnce n e → (i : ℕ) → In i e → Goals n i
-  uses-in u i p =
-      ⊎-elim (λ t. of-range n i t) (λ t. absurd (omega (arith, in-times e i p, u i ∙ ap (λ b. cond b 1 0) t)))
-      (test (leb 1 i && leb i n))
-
-  pub in-uses : UsesOnce n e → (i : ℕ) → Goals n i → In i e
-  in-uses u i h = times-in e i (omega (arith, u i ∙ ap (λ b. cond b 1 0) (in-range n i h)))
-
-  -- the other way
-  pub of-in : Once e → ((i : ℕ) → In i e ↔ Goals n i) → UsesOnce n e
-  of-in o c i = ⊎-elim inside outside (test (leb 1 i && leb i n))
-    where
-      inside : (leb 1 i && leb i n) ≡ true → times e i ≡ cond (leb 1 i && leb i n) 1 0
-      inside t =
-          let h : times e i ≡ 1 = omega (arith, o i, in-times e i (c i .1 (of-range n i t))) in
-          h ∙ ap (λ b. cond b 1 0) (sym t)
-
-      outside : (leb 1 i && leb i n) ≡ false → times e i ≡ cond (leb 1 i && leb i n) 1 0
-      outside t =
-          let k : (1 ≤ times e i) → ⊥
-          = λ h. false≢true (sym t ∙ in-range n i (c i .0 (times-in e i h))) in
-          let h : times e i ≡ 0 = omega arith in
-          h ∙ ap (λ b. cond b 1 0) (sym t)
-
--- an expression that uses 1 to n once and has the order R fits R
-pub order-fits : (R : ℕ → ℕ → Bool) (n : ℕ) (e : Expr) → UsesOnce n e → HasOrder R n e → Fits R e
-order-fits R n e u h = before-fits R e (uses-once n e u) (λ i j p q. h i j (uses-in n e u i p) (uses-in n e u j q))
-
--- ---- 1. The order that an expression induces has no N,
+-- ---- T1. The order that an expression induces has no N,
 pub induced-no-n : (R : ℕ → ℕ → Bool) (e : Expr) → Once e → Induces R e → NoN R (λ i. stands e i ≡ true)
 induced-no-n R e u h a b c d ha hb hc hd n =
     no-n R n e (before-fits R e u (λ i j p q. h i j (in-stands e i p) (in-stands e j q)))
     (stands-in e a ha) (stands-in e b hb) (stands-in e c hc) (stands-in e d hd)
 
--- so an order with an N has no expression,
+-- so an order with an N has no expression, in house form or not,
 pub order-no-n : (R : ℕ → ℕ → Bool) (n : ℕ) (e : Expr) → UsesOnce n e → HasOrder R n e → NoN R (Goals n)
 order-no-n R n e u h a b c d ha hb hc hd x =
     no-n R x e (order-fits R n e u h) (in-uses n e u a ha) (in-uses n e u b hb) (in-uses n e u c hc) (in-uses n e u d hd)
 
--- and neither has the N alone: no expression that uses just its four goals, each once, has their order.
-pub no-four : (R : ℕ → ℕ → Bool) (a b c d : ℕ) → N R a b c d → (e : Expr) → ((i : ℕ) → times e i ≡ cond (eqb i a || eqb i b || eqb i c || eqb i d) 1 0)
-    → Induces R e → ⊥
+-- and neither have the four goals alone: no expression that uses just the goals of an N, each once, has their order.
+pub no-four : (R : ℕ → ℕ → Bool) (a b c d : ℕ) → N R a b c d → (e : Expr) → UsesFour a b c d e → Induces R e → ⊥
 no-four R a b c d n e u h = induced-no-n R e once h a b c d
     (here a (simp (eq-eqb a a refl))) (here b (simp (eq-eqb b b refl, or-true))) (here c (simp (eq-eqb c c refl, or-true))) (here d (simp (eq-eqb d d refl, or-true))) n
   where
@@ -78,26 +63,87 @@ no-four R a b c d n e u h = induced-no-n R e once h a b c d
     here : (i : ℕ) → (eqb i a || eqb i b || eqb i c || eqb i d) ≡ true → stands e i ≡ true
     here i t = in-stands e i (times-in e i (omega (arith, u i ∙ ap (λ b. cond b 1 0) t)))
 
--- ---- 2. An order with no N has a house form.
+-- ---- T2. A strict order with no N has a house form, also if it goes against the numbers;
+pub form-any : (R : ℕ → ℕ → Bool) (n : ℕ) → Strict R (Goals n) → NoN R (Goals n) → 1 ≤ n → HouseForm R n (formAny R n)
+form-any R n = Arrange.form-any R n
+
+-- for an order that goes from smaller numbers to larger `form` is simpler.
 pub form-is : (R : ℕ → ℕ → Bool) (n : ℕ) → Order R (Goals n) → NoN R (Goals n) → 1 ≤ n → HouseForm R n (form R n)
-form-is R n o none h =
-    let f = form-on R n o none (λ _. true) 1 (omega arith, h) refl in
-    let c : (i : ℕ) → In i (form R n) ↔ Goals n i = λ i. (λ p. f .covers i .0 p .0, λ p. f .covers i .1 (p, refl)) in
-    record {
-      uses = of-in n (form R n) (fits-once R (form R n) (f .fits)) c;
-      order = λ i j p q. fits-before R (form R n) (f .fits) i j (c i .1 p) (c j .1 q);
-      house = f .house;
-    }
+form-is R n o free h = form-house R n (form R n) (all-pass R n (form R n) (form-on R n o free (λ _. true) 1 (omega arith, h) refl))
 
--- ---- 3. It is the only one.
-pub form-unique : (R : ℕ → ℕ → Bool) (n : ℕ) (e e′ : Expr) → HouseForm R n e → HouseForm R n e′ → e ≡ e′
-form-unique R n e e′ f g =
-    unique R e e′ (order-fits R n e (f .uses) (f .order)) (order-fits R n e′ (g .uses) (g .order)) (f .house) (g .house)
-    (λ i. (λ p. in-uses n e′ (g .uses) i (uses-in n e (f .uses) i p), λ p. in-uses n e (f .uses) i (uses-in n e′ (g .uses) i p)))
-
--- Together: an order on the goals 1 to n has an expression exactly if it has no N.
-pub has-expression : (R : ℕ → ℕ → Bool) (n : ℕ) → Order R (Goals n) → 1 ≤ n → ((e : Expr) × UsesOnce n e × HasOrder R n e) ↔ NoN R (Goals n)
-has-expression R n o h = (
+-- With T1: an order on the goals 1 to n has an expression exactly if it has no N.
+pub has-expression-any : (R : ℕ → ℕ → Bool) (n : ℕ) → Strict R (Goals n) → 1 ≤ n → ((e : Expr) × UsesOnce n e × HasOrder R n e) ↔ NoN R (Goals n)
+has-expression-any R n o h = (
   (λ x. order-no-n R n (x .0) (x .1) (x .2)),
-  λ none. let f = form-is R n o none h in (form R n, f .uses, f .order),
+  λ free. let f = form-any R n o free h in (formAny R n, f .uses, f .order),
 )
+
+pub order-strict : (R : ℕ → ℕ → Bool) (S : ℕ → Type 0) → Order R S → Strict R S
+order-strict R S o =
+    record { unlike = λ i s. ⊎-elim (λ t. absurd (omega (arith, o .rising i i s s t))) (λ t. t) (test (R i i)); chained = o .chained }
+
+pub has-expression : (R : ℕ → ℕ → Bool) (n : ℕ) → Order R (Goals n) → 1 ≤ n → ((e : Expr) × UsesOnce n e × HasOrder R n e) ↔ NoN R (Goals n)
+has-expression R n o = has-expression-any R n (order-strict R (Goals n) o)
+
+-- ---- T3. It is the only house form of the order.
+pub form-unique : (R : ℕ → ℕ → Bool) (n : ℕ) (e e′ : Expr) → HouseForm R n e → HouseForm R n e′ → e ≡ e′
+form-unique R n e e′ f g = form-eq R e e′ (house-form R n e f) (house-form R n e′ g) (λ i. (λ p. p, λ p. p))
+
+-- So `form` and `formAny` are the same where both are forms.
+pub form-any-is : (R : ℕ → ℕ → Bool) (n : ℕ) → Order R (Goals n) → NoN R (Goals n) → 1 ≤ n → formAny R n ≡ form R n
+form-any-is R n o free h =
+    form-unique R n (formAny R n) (form R n) (form-any R n (order-strict R (Goals n) o) free h) (form-is R n o free h)
+
+-- ---- T4. The text of up to 32 goals has at most 146 bytes, in house form or not,
+pub text-fits : (n : ℕ) (e : Expr) → UsesOnce n e → n ≤ 32 → length (text e) ≤ 146
+text-fits n e = Length.text-fits n e
+
+-- and that of a house form may have as many: each goal in turn comes after all before it, or beside all before it.
+pub text-longest : (R : ℕ → ℕ → Bool) × (e : Expr) × HouseForm R 32 e × (length (text e) ≡ 146)
+text-longest = (R, form R 32, form-is R 32 order free (omega arith), refl)
+  where
+    R : ℕ → ℕ → Bool
+    R i j = ltb i j && eqb (j % 2) 0
+
+    up : (i j : ℕ) → R i j ≡ true → (i < j) × (j % 2 ≡ 0)
+    up i j h = let t = and-true (ltb i j) (eqb (j % 2) 0) h in (ltb-true i j (t .0), eqb-true (j % 2) 0 (t .1))
+
+    is-up : (i j : ℕ) → i < j → j % 2 ≡ 0 → R i j ≡ true
+    is-up i j h g = simp (lt-ltb i j h, eq-eqb (j % 2) 0 g)
+
+    order : Order R (Goals 32)
+    order =
+        record {
+          rising = λ i j _ _ h. up i j h .0;
+          chained = λ i j k _ _ _ h g. is-up i k (omega (arith, up i j h .0, up j k g .0)) (up j k g .1);
+        }
+
+    free : NoN R (Goals 32)
+    free a b c d _ _ _ _ n = true≢false (sym (is-up a d below (up b d (n .bd) .1)) ∙ n .ad)
+      where
+        -- c is not after d, and a is before c
+        level : d < c → ⊥
+        level h = true≢false (sym (is-up d c h (up a c (n .ac) .1)) ∙ n .dc)
+
+        below : a < d
+        below = omega (arith, level, up a c (n .ac) .0)
+
+-- ---- House form restored: the same goals,
+pub restore-times : (e : Expr) (i : ℕ) → times (restore e) i ≡ times e i
+restore-times = Restore.restore-times
+
+-- in the same order,
+pub restore-before : (e : Expr) → Once e → (i j : ℕ) → before (restore e) i j ≡ before e i j
+restore-before = Restore.restore-before
+
+-- in house form;
+pub restore-house : (e : Expr) → Once e → House (restore e)
+restore-house = Restore.restore-house
+
+-- a house form stays as it is,
+pub restore-same : (e : Expr) → House e → restore e ≡ e
+restore-same = Restore.restore-same
+
+-- and two expressions with the same goals in the same order become one.
+pub restore-eq : (e e′ : Expr) → Once e → ((i : ℕ) → times e i ≡ times e′ i) → ((i j : ℕ) → before e i j ≡ before e′ i j) → restore e ≡ restore e′
+restore-eq = Restore.restore-eq

@@ -1,6 +1,5 @@
--- The house form of any order, also against the numbers: the goals are put into a row that respects the order, the form of the places in the row is made,
--- the goals are written for the places, and house form is restored.
--- Assumes nothing.
+-- The house form of any strict order with no N, also against the numbers: the goals are put into a row that respects the order, the form of the places in the row is
+-- made, the goals are written for the places, and house form is restored. `form-any` in `proofs/Theorems.antt` says what it is.
 use mathlib.Core.Path.{_≡_}
 use mathlib.Core.Bool.{Bool, true, false, cond}
 use mathlib.Core.List.{List, [], _∷_}
@@ -10,7 +9,7 @@ use Rattle.expression.specs.Expr.{Expr, goal, join, Members, one, more}
 use Rattle.expression.specs.Form.{form, chosen, upFrom}
 use Rattle.expression.specs.Restore.{restore}
 
--- R is a strict order on the set S.
+-- R is a strict order on the set S; it may go against the numbers. Outside of S nothing is asked of it.
 pub record Strict (R : ℕ → ℕ → Bool) (S : ℕ → Type 0) : Type 0 where
   pub unlike : (i : ℕ) → S i → R i i ≡ false
   pub chained : (i j k : ℕ) → S i → S j → S k → R i j ≡ true → R j k ≡ true → R i k ≡ true
@@ -65,4 +64,4 @@ module _ (R : ℕ → ℕ → Bool) where
 
   -- The form of the goals 1 to n.
   abbrev pub formAny : ℕ → Expr
-  formAny n = formList (upFrom 1 n)
+  formAny n = formOnAny n (λ _. true)

@@ -1,5 +1,4 @@
--- The waiting order: i is before j if a chain of waits leads from i to j.
--- Assumes nothing.
+-- The waiting order. 01: "Goal i is before goal j if a chain of waits leads from i to j: the closure is taken first."
 use mathlib.Core.Path.{_≡_}
 use mathlib.Core.Bool.{Bool, true, _&&_, _||_}
 use Prim.Native.Nat.{ℕ, zero, suc}
@@ -10,7 +9,7 @@ pub data Chain (W : ℕ → ℕ → Bool) (n : ℕ) : ℕ → ℕ → Type 0 whe
   wait : {i j : ℕ} → W i j ≡ true → Chain W n i j
   link : {i j k : ℕ} → Goals n j → Chain W n i j → Chain W n j k → Chain W n i k
 
--- The same as a test: of the goals between the ends of a chain, those up to m are let in, one after another.
+-- The same as a test, for m = n: of the goals between the ends of a chain, those from 1 to m are let in, one after another.
 abbrev pub closed : (ℕ → ℕ → Bool) → ℕ → ℕ → ℕ → Bool
 closed W zero i j = W i j
 closed W (suc m) i j = closed W m i j || (closed W m i (suc m) && closed W m (suc m) j)

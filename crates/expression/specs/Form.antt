@@ -1,5 +1,5 @@
--- The house form of an order R, made by putting in one goal after another, the smallest first. `proofs/Exists.antt` says what it is.
--- Assumes nothing.
+-- The house form of an order R that has no N and goes from smaller numbers to larger, made by putting in one goal after another, the smallest first.
+-- `form-is` in `proofs/Theorems.antt` says what it is, `form-unique` that there is no other.
 use mathlib.Core.Bool.{Bool, true, not, _&&_, cond, Bool·beq}
 use mathlib.Core.List.{List, [], _∷_}
 use Prim.Native.Nat.{ℕ, zero, suc}

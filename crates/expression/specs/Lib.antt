@@ -1,10 +1,10 @@
 pub mod Expr
-pub mod Form
+pub mod Induced
 pub mod Text
 pub mod Search
 pub mod Closure
+pub mod Form
 pub mod Split
-pub mod Drafts
 pub mod Restore
 pub mod Arrange
-pub mod Restorings
+pub mod Examples
