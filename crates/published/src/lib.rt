@@ -1,0 +1,1 @@
+// Definitions and laws alone: the published decision on dependency graphs.
