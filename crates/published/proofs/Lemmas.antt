@@ -10,17 +10,10 @@ use borrow.Author.Tests.{eqb-true}
 use Rattle.expression.specs.Expr.{N, NoN}
 use Rattle.expression.specs.Arrange.{Strict}
 use Rattle.expression.proofs.Bools.{test, and-true, not-true, or-true as or-cases}
-use Rattle.published.specs.Sets.{_∈_, every, subset, inside, disjoint}
+use Rattle.published.specs.Sets.{_∈_, Disjoint, Subset, every, subset, inside, disjoint}
 use Rattle.published.specs.Figure1.{P, S, F, lemma1, lemma3}
 use Rattle.published.proofs.Lists.{every-in, in-every, in-subset, subset-in, subset-false, disjoint-in, disjoint-false}
 use Rattle.published.proofs.Graph.{p-in, f-in, f-vertex, f-waits, f-free, s-part, s-f, s-some}
-
--- a and b do not intersect; a is a subset of b
-abbrev pub Disjoint : List ℕ → List ℕ → Type 0
-Disjoint a b = (p : ℕ) → p ∈ a → p ∈ b → ⊥
-
-abbrev pub Subset : List ℕ → List ℕ → Type 0
-Subset a b = (p : ℕ) → p ∈ a → p ∈ b
 
 module _ (R : ℕ → ℕ → Bool) (W : List ℕ) where
   -- ---- what the two conditions say

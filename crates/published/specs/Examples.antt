@@ -66,3 +66,18 @@ examples
     × (figure1 graphC 4 ≡ false)
     × (firstN graphC 4 ≡ some (record { a = 3; b = 1; c = 4; d = 2 }))
 examples = (refl, refl, refl, refl, refl, refl, refl, refl, refl)
+
+-- Nested sets, ((1,3)&2),4; a vertex of P in no set, 1&(2,3); no vertex waits, 1&2&3.
+abbrev nested : ℕ → ℕ → Bool
+nested = edges ((1, 3) ∷ (1, 4) ∷ (2, 4) ∷ (3, 4) ∷ [])
+
+others
+    : (S nested four ≡ (1 ∷ []) ∷ (1 ∷ 2 ∷ []) ∷ [])
+    × (figure1 nested 4 ≡ true)
+    × (text (udgExpr nested 4) ≡ 40 ∷ 40 ∷ 49 ∷ 44 ∷ 51 ∷ 41 ∷ 38 ∷ 50 ∷ 41 ∷ 44 ∷ 52 ∷ [])
+    × (figure1 (edges ((2, 3) ∷ [])) 3 ≡ true)
+    × (text (udgExpr (edges ((2, 3) ∷ [])) 3) ≡ 40 ∷ 50 ∷ 44 ∷ 51 ∷ 41 ∷ 38 ∷ 49 ∷ [])
+    × (text (restore (udgExpr (edges ((2, 3) ∷ [])) 3)) ≡ 49 ∷ 38 ∷ 40 ∷ 50 ∷ 44 ∷ 51 ∷ 41 ∷ [])
+    × (figure1 (edges []) 3 ≡ true)
+    × (text (udgExpr (edges []) 3) ≡ 49 ∷ 38 ∷ 50 ∷ 38 ∷ 51 ∷ [])
+others = (refl, refl, refl, refl, refl, refl, refl, refl)
