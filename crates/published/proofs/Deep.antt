@@ -1,5 +1,4 @@
 -- Figure 1 and section 3.2 for any vertices: the calls end, no N answers true, and true has the linear expression.
--- Assumes nothing.
 use mathlib.Core.Path.{_≡_, refl, ap, ap₂, _∙_}
 use mathlib.Core.Bool.{Bool, true, _&&_}
 use mathlib.Core.List.{List, [], _∷_}

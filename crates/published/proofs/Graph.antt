@@ -1,5 +1,4 @@
 -- The sets P, Q, E(q), S and F of figure 1 for a strict order on the vertices: what stands in them.
--- Assumes nothing.
 use mathlib.Core.Path.{_≡_, refl, sym, ap, _∙_, subst}
 use mathlib.Core.Bool.{Bool, true, false, not, true≢false, false≢true, Bool·beq}
 use mathlib.Core.List.{List, [], _∷_, map}

@@ -1,5 +1,4 @@
 -- Lemmas 1, 2 and 3 of document 003 for any vertices: lemma 2 holds of every strict order, the conditions of lemmas 1 and 3 hold where there is no N.
--- Assumes nothing.
 use mathlib.Core.Path.{_≡_, refl, sym, ap, ap₂, _∙_, subst}
 use mathlib.Core.Bool.{Bool, true, false, not, _||_, _&&_, true≢false, false≢true, or-true}
 use mathlib.Core.List.{List}

@@ -1,5 +1,4 @@
 -- Section 3.2 of document 003: where the conditions of lemmas 1 and 3 hold, the expression that is built set by set has the order.
--- Assumes nothing.
 use mathlib.Core.Path.{_≡_, refl, sym, ap, _∙_, subst}
 use mathlib.Core.Bool.{Bool, true, false, not, true≢false}
 use mathlib.Core.List.{List, [], _∷_, map}

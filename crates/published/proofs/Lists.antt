@@ -4,7 +4,6 @@
 --     Pair, pair-those, pair-two     what holds of each and each later one
 --     among-in, in-among, subset-in, in-subset, ..     sets of numbers
 --     distinct-in, in-distinct, distinct-pair     a list of sets, each kept once
--- Assumes nothing.
 use mathlib.Core.Path.{_≡_, refl, sym, ap, ap₂, _∙_, subst}
 use mathlib.Core.Bool.{Bool, true, false, not, _&&_, _||_, cond, true≢false, false≢true}
 use mathlib.Core.List.{List, [], _∷_, map}

@@ -1,5 +1,4 @@
 -- The published decision is the annotator's: figure 1, lemmas 1 to 3 and the linear expression of document 003, for the goals 1 to n and any strict order on them.
--- Assumes nothing.
 use mathlib.Core.Path.{_≡_, refl, sym, ap, _∙_}
 use mathlib.Core.Bool.{Bool, true, false, true≢false}
 use mathlib.Core.List.{List, [], _∷_}
@@ -17,10 +16,9 @@ use Rattle.expression.proofs.Fits.{In, Fits}
 use Rattle.expression.proofs.Bools.{test}
 use Rattle.expression.proofs.Exists.{Member, member-up, up-member}
 use Rattle.expression.proofs.Spec.{fits-once, fits-before}
-use Rattle.expression.proofs.Theorems.{of-in, order-no-n, form-is, form-unique}
+use Rattle.expression.proofs.Theorems.{of-in, order-no-n, form-any, has-expression-any, order-strict, form-unique, form-any-is}
 use Rattle.expression.proofs.Search.{not-found, none-found}
 use Rattle.expression.proofs.Restore.{restored}
-use Rattle.expression.proofs.Arrange.{has-expression-any, form-any}
 use Rattle.published.specs.Sets.{_∈_, Disjoint, Subset, subset}
 use Rattle.published.specs.Figure1.{S, F, figure1}
 use Rattle.published.specs.Linear.{udgExpr}
@@ -29,7 +27,7 @@ use Rattle.published.proofs.Lemmas.{read-1, read-3, lemma1-holds, lemma
 use Rattle.published.proofs.Linear.{Compiled}
 use Rattle.published.proofs.Deep.{linear-compiled, udg-no-n}
 
--- ---- the vertices 1 to n
+-- ---- the vertices 1 to n; `Member` is `∈` at the numbers
 member-in : (l : List ℕ) (i : ℕ) → Member i l → i ∈ l
 member-in [] i m = m
 member-in (x ∷ l) i m = ⊎-elim inl (λ h. inr (member-in l i h)) m
@@ -135,20 +133,12 @@ module _ (R : ℕ → ℕ → Bool) (n : ℕ) where
           (λ i. (λ p. compiled .covers i .0 (r .covers i .0 p), λ p. r .covers i .1 (compiled .covers i .1 p))) (r .fits) in
           record { uses = c .0; order = c .1; house = r .house }
 
-      -- which is the annotator's.
+      -- `formAny`.
       pub udg-form : restore (udgExpr R n) ≡ formAny R n
       udg-form = form-unique R n (restore (udgExpr R n)) (formAny R n) udg-house (form-any R n o (figure-1 .0 t) h)
 
-  -- ---- The order of a clause goes up, and its form is `form`.
-  order-strict : Order R (Goals n) → Strict R (Goals n)
-  order-strict o =
-      record {
-        unlike = λ i g. ⊎-elim (λ t. absurd (omega (arith, o .rising i i g g t))) (λ t. t) (test (R i i));
-        chained = o .chained;
-      }
-
+  -- The order of a clause goes up, and its form is `form`: so it is the annotator's text.
   pub udg-text : Order R (Goals n) → 1 ≤ n → figure1 R n ≡ true → text (restore (udgExpr R n)) ≡ text (form R n)
   udg-text o h t =
-      ap text
-      (form-unique R n (restore (udgExpr R n)) (form R n) (udg-house (order-strict o) h t)
-      (form-is R n o (figure-1 (order-strict o) .0 t) h))
+      let s = order-strict R (Goals n) o in
+      ap text (udg-form s h t ∙ form-any-is R n o (figure-1 s .0 t) h)

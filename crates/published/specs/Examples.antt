@@ -1,5 +1,4 @@
 -- Document 003, section 2.4: its three examples, by computation. The letters A, B, C, .. are the goals 1, 2, 3, ..
--- Assumes nothing.
 use mathlib.Core.Path.{_≡_, refl}
 use mathlib.Core.Bool.{Bool, true, false, _&&_, _||_}
 use mathlib.Core.List.{List, [], _∷_}

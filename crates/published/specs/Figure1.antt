@@ -1,7 +1,6 @@
 -- Document 003 (the CDG, UDG and MEL methods), section 2.2 and figure 1: whether a dependency graph can be compiled into a linear expression without loss of
 -- parallelism. The vertices V, here W, are a list of goals; (i, j) is an edge exactly if `R i j`. "We consider only those UDGs whose set of edges is closed under
 -- transitivity."
--- Assumes nothing.
 use mathlib.Core.Bool.{Bool, true, not, _&&_, _||_, Bool·beq}
 use mathlib.Core.List.{List, map}
 use Prim.Native.Nat.{ℕ, zero, suc}

@@ -1,5 +1,4 @@
 -- Document 003, section 3.2: the linear expression of a dependency graph.
--- Assumes nothing.
 use mathlib.Core.Bool.{Bool, true, false, not, cond}
 use mathlib.Core.List.{List, [], _∷_, map}
 use Prim.Native.Nat.{ℕ, zero, suc}

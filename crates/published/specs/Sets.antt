@@ -1,5 +1,4 @@
 -- Finite sets, as lists.
--- Assumes nothing.
 use mathlib.Core.Path.{_≡_}
 use mathlib.Core.Bool.{Bool, true, false, not, _&&_, _||_, cond}
 use mathlib.Core.List.{List, [], _∷_}
@@ -27,14 +26,14 @@ module _ {A : Type 0} where
   those p [] = []
   those p (x ∷ l) = let r = those p l in cond (p x) (x ∷ r) r
 
--- Sets of vertices a and b do not intersect; a is a subset of b.
+-- Two sets of vertices do not intersect; the one is a subset of the other.
 abbrev pub Disjoint : List ℕ → List ℕ → Type 0
 Disjoint a b = (x : ℕ) → x ∈ a → x ∈ b → ⊥
 
 abbrev pub Subset : List ℕ → List ℕ → Type 0
 Subset a b = (x : ℕ) → x ∈ a → x ∈ b
 
--- The same as tests, and more of them: x is in a; a is part of b; a is part of b and not all of it; they do not intersect; they are the same.
+-- Tests of sets of vertices: x is in a; a is a subset of b; a subset and not all of b; they do not intersect; they are the same.
 abbrev pub among : ℕ → List ℕ → Bool
 among x a = any (eqb x) a
 
