@@ -32,7 +32,9 @@ use Rattle.expression.proofs.Arrange
 use Rattle.expression.proofs.Length
 use Rattle.expression.proofs.Search
 use Rattle.expression.proofs.Restore
-pub use Rattle.expression.proofs.Uses.{in-range, uses-once, uses-in, in-uses, of-in, order-fits, house-form, form-house, all-pass}
+use Rattle.expression.proofs.Uses.{house-form, form-house, all-pass}
+-- laws on the goals of an expression, passed on
+pub use Rattle.expression.proofs.Uses.{in-range, uses-once, uses-in, in-uses, of-in, order-fits}
 
 -- ---- The order. What `before` computes is the order of the paper's sentence,
 pub before-is : (e : Expr) → Once e → (i j : ℕ) → (before e i j ≡ true) ↔ Before e i j
