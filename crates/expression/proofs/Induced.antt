@@ -65,8 +65,8 @@ module _ (i j : ℕ) where
         record {
           a = suc (x .a);
           b = suc (x .b);
-          one = x .one;
-          other = x .other;
+          left = x .left;
+          right = x .right;
           at-a = x .at-a;
           at-b = x .at-b;
           holds-i = x .holds-i;
@@ -85,8 +85,8 @@ module _ (i j : ℕ) where
         record {
           a = 0;
           b = suc (r .0);
-          one = e;
-          other = r .1;
+          left = e;
+          right = r .1;
           at-a = refl;
           at-b = r .2;
           holds-i = s .1;
@@ -109,7 +109,7 @@ module _ (i j : ℕ) where
       let y = x .innermost in
       record {
         part = x .part;
-        innermost = record { part = inside a h (y .part); first = y .first; second = y .second; innermost = y .innermost };
+        innermost = record { part = inside a h (y .part); holds-i = y .holds-i; holds-j = y .holds-j; no-member = y .no-member };
         sequence = x .sequence;
         earlier = x .earlier;
       }
@@ -119,15 +119,15 @@ module _ (i j : ℕ) where
         innermost =
             record {
               part = itself;
-              first = holds-up (join k e ms) (x .a) (x .one) (x .at-a) i (x .holds-i);
-              second = holds-up (join k e ms) (x .b) (x .other) (x .at-b) j (x .holds-j);
-              innermost =
+              holds-i = holds-up (join k e ms) (x .a) (x .left) (x .at-a) i (x .holds-i);
+              holds-j = holds-up (join k e ms) (x .b) (x .right) (x .at-b) j (x .holds-j);
+              no-member =
                   λ c m h p q.
                   omega (
                     arith,
                     x .earlier,
-                    same-place (more e ms) u i (x .a) c (x .one) m (x .at-a) h (x .holds-i) p,
-                    same-place (more e ms) u j (x .b) c (x .other) m (x .at-b) h (x .holds-j) q,
+                    same-place (more e ms) u i (x .a) c (x .left) m (x .at-a) h (x .holds-i) p,
+                    same-place (more e ms) u j (x .b) c (x .right) m (x .at-b) h (x .holds-j) q,
                   );
             };
         sequence = t;
@@ -172,7 +172,7 @@ module _ (i j : ℕ) where
   here (goal g) s x = absurd s
   here (join k e ms) s x =
       subst (λ h. beforeM h (more e ms) i j ≡ true) (sym s)
-      (from-earlier (more e ms) (x .a) (x .b) (x .one) (x .other) (x .at-a) (x .at-b) (x .holds-i) (x .holds-j) (x .earlier))
+      (from-earlier (more e ms) (x .a) (x .b) (x .left) (x .right) (x .at-a) (x .at-b) (x .holds-i) (x .holds-j) (x .earlier))
 
   before-back : (p : Expr) {e : Expr} → Part p e → Sequence p → Earlier (members p) i j → before e i j ≡ true
   before-back p itself s x = here p s x
@@ -224,8 +224,8 @@ module _ (i j : ℕ) where
       neither t (suc a) m h p q = n a m h p q
 
   settle : (e : Expr) → Both e → Some (members e) ⊎ None (members e) → (p : Expr) × Innermost e i j p
-  settle e b (inl (a, m, p, h, x)) = (p, record { part = inside a h (x .part); first = x .first; second = x .second; innermost = x .innermost })
-  settle e b (inr n) = (e, record { part = itself; first = b .0; second = b .1; innermost = n })
+  settle e b (inl (a, m, p, h, x)) = (p, record { part = inside a h (x .part); holds-i = x .holds-i; holds-j = x .holds-j; no-member = x .no-member })
+  settle e b (inr n) = (e, record { part = itself; holds-i = b .0; holds-j = b .1; no-member = n })
 
   mutual
     innermost-of : (e : Expr) → Both e → (p : Expr) × Innermost e i j p
@@ -255,4 +255,4 @@ module _ (i j : ℕ) where
       below p q e m a u h r b n′ b′ (λ t. only p q (once-member e u a m h) n b n′ b′ r t) s
 
   pub innermost-unique : (e p q : Expr) → Once e → Innermost e i j p → Innermost e i j q → p ≡ q
-  innermost-unique e p q u x y = only p q u (x .innermost) (x .first, x .second) (y .innermost) (y .first, y .second) (x .part) (y .part)
+  innermost-unique e p q u x y = only p q u (x .no-member) (x .holds-i, x .holds-j) (y .no-member) (y .holds-i, y .holds-j) (x .part) (y .part)

@@ -4,10 +4,12 @@
 --     T2, complete        form-any, form-is: an order without an N has a house form; has-expression-any, has-expression: with T1
 --     T3, unique          form-unique: only one
 --     T4, short           text-fits: at most 146 bytes for up to 32 goals; text-longest: 146 are reached
+--     T5, first           first-n-is, no-n-is: the search finds the first N, or none exactly if there is none; n-distinct: its goals are four
 --     restore             restore-times, restore-before, restore-house, restore-same, restore-eq
-use mathlib.Core.Path.{_≡_, refl, sym, ap, _∙_}
+use mathlib.Core.Path.{_≡_, refl, sym, ap, ap₂, _∙_}
 use mathlib.Core.Bool.{Bool, true, _&&_, _||_, cond, true≢false, or-true}
-use mathlib.Core.Logic.{⊎-elim, _↔_}
+use mathlib.Core.Logic.{⊎-elim, _↔_, _≢_}
+use mathlib.Core.Option.{none, some}
 use Prim.Native.Nat.{ℕ, _≤_, _<_, _%_}
 use native.Mathlib.Omega.{arith}
 use lib.Dec.{eqb, ltb}
@@ -17,6 +19,7 @@ use Rattle.expression.specs.Expr.{Expr, times, stands, before, Once, Ind
 use Rattle.expression.specs.Induced.{Holds, Innermost, Before}
 use Rattle.expression.specs.Form.{form}
 use Rattle.expression.specs.Text.{text}
+use Rattle.expression.specs.Search.{Four, FirstN, firstN}
 use Rattle.expression.specs.Restore.{restore}
 use Rattle.expression.specs.Arrange.{Strict, formAny}
 use Rattle.expression.proofs.NoN.{no-n}
@@ -27,8 +30,11 @@ use Rattle.expression.proofs.Spec.{times-in, stands-in, in-stands, befo
 use Rattle.expression.proofs.Induced
 use Rattle.expression.proofs.Arrange
 use Rattle.expression.proofs.Length
+use Rattle.expression.proofs.Search
 use Rattle.expression.proofs.Restore
-pub use Rattle.expression.proofs.Uses.{in-range, uses-once, uses-in, in-uses, of-in, order-fits, house-form, form-house, all-pass}
+use Rattle.expression.proofs.Uses.{house-form, form-house, all-pass}
+-- laws on the goals of an expression, passed on
+pub use Rattle.expression.proofs.Uses.{in-range, uses-once, uses-in, in-uses, of-in, order-fits}
 
 -- ---- The order. What `before` computes is the order of the paper's sentence,
 pub before-is : (e : Expr) → Once e → (i j : ℕ) → (before e i j ≡ true) ↔ Before e i j
@@ -127,6 +133,25 @@ text-longest = (R, form R 32, form-is R 32 order free (omega arith), refl)
 
         below : a < d
         below = omega (arith, level, up a c (n .ac) .0)
+
+-- ---- T5. The search finds q exactly if q is the first N by a, then b, c, d,
+pub first-n-is : (R : ℕ → ℕ → Bool) (n : ℕ) (q : Four) → (firstN R n ≡ some q) ↔ FirstN R n q
+first-n-is R n q = (Search.found-first R n q, Search.first-found R n q)
+
+-- and nothing exactly if there is no N.
+pub no-n-is : (R : ℕ → ℕ → Bool) (n : ℕ) → (firstN R n ≡ none) ↔ NoN R (Goals n)
+no-n-is R n = (Search.not-found R n, Search.none-found R n)
+
+-- The goals of an N are four.
+pub n-distinct : (R : ℕ → ℕ → Bool) (a b c d : ℕ) → N R a b c d → (a ≢ b) × (a ≢ c) × (a ≢ d) × (b ≢ c) × (b ≢ d) × (c ≢ d)
+n-distinct R a b c d n = (
+  (λ e. true≢false (sym (n .bd) ∙ ap (λ x. R x d) (sym e) ∙ n .ad)),
+  (λ e. true≢false (sym (n .ac) ∙ ap₂ R e (sym e) ∙ n .ca)),
+  (λ e. true≢false (sym (n .ac) ∙ ap (λ x. R x c) e ∙ n .dc)),
+  (λ e. true≢false (sym (n .bc) ∙ ap₂ R e (sym e) ∙ n .cb)),
+  (λ e. true≢false (sym (n .bd) ∙ ap₂ R e (sym e) ∙ n .db)),
+  (λ e. true≢false (sym (n .ac) ∙ ap (R a) e ∙ n .ad)),
+)
 
 -- ---- House form restored: the same goals,
 pub restore-times : (e : Expr) (i : ℕ) → times (restore e) i ≡ times e i

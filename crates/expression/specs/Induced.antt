@@ -33,9 +33,9 @@ Holds p i = stands p i ≡ true
 -- p is the innermost part of e that holds both i and j: it holds both, and no member of it does.
 pub record Innermost (e : Expr) (i j : ℕ) (p : Expr) : Type 0 where
   pub part : Part p e
-  pub first : Holds p i
-  pub second : Holds p j
-  pub innermost : (a : ℕ) (m : Expr) → At (members p) a m → Holds m i → Holds m j → ⊥
+  pub holds-i : Holds p i
+  pub holds-j : Holds p j
+  pub no-member : (a : ℕ) (m : Expr) → At (members p) a m → Holds m i → Holds m j → ⊥
 
 -- p is a sequence.
 abbrev pub Sequence : Expr → Type 0
@@ -46,12 +46,12 @@ Sequence (join k e ms) = k ≡ true
 pub record Earlier (l : List Expr) (i j : ℕ) : Type 0 where
   pub a : ℕ
   pub b : ℕ
-  pub one : Expr
-  pub other : Expr
-  pub at-a : At l a one
-  pub at-b : At l b other
-  pub holds-i : Holds one i
-  pub holds-j : Holds other j
+  pub left : Expr
+  pub right : Expr
+  pub at-a : At l a left
+  pub at-b : At l b right
+  pub holds-i : Holds left i
+  pub holds-j : Holds right j
   pub earlier : a < b
 
 -- The expression e induces: i before j.
