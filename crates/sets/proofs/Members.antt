@@ -67,7 +67,7 @@ unfolding membersFrom
 in-members zero i m x = λ h. absurd h
 in-members (suc w) i m x =
     let rest : In x (membersFrom w (suc i) m) → (i ≤ x) × (x < i + suc w) × (has m x ≡ true) =
-      λ h. let r = in-members w (suc i) m x h in (omega arith, omega arith, r .2)
+    λ h. let r = in-members w (suc i) m x h in (omega arith, omega arith, r .2)
     in
     pick-in (λ (l : List ℕ). In x l → (i ≤ x) × (x < i + suc w) × (has m x ≡ true)) (has m i) i (membersFrom w (suc i) m)
     (λ e. ⊎-elim (λ q. (omega arith, omega arith, ap (has m) q ∙ e)) rest) (λ e. rest)
