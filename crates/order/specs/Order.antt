@@ -7,7 +7,7 @@ use Rattle.record.specs.Fields.{goalCount, groundSet, goalSet, listed}
 use Rattle.expression.specs.Closure.{Chain, closed}
 use Rattle.graph.specs.Graph.{graphOf}
 use Rattle.graph.specs.declared.Graph.{Graph}
-use Rattle.order.specs.Independence.{independent}
+use Rattle.judge.specs.Independence.{independent}
 
 -- the facts for a pair of goals whose earlier one is i: the variables known ground, and those known independent of every other.
 -- 01: "Its facts are taken to hold at every goal"; version 1 knows no variable of the second kind.

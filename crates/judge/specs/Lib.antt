@@ -1,0 +1,2 @@
+pub mod Independence
+pub mod ByRows
