@@ -1,0 +1,35 @@
+-- T10: what the definition of the annotation gives, in the words of `Plain` of crate stages. For any width, any clause and any number of goals.
+-- Assumes nothing.
+use mathlib.Core.Path.{_≡_}
+use mathlib.Core.Logic.{_↔_}
+use mathlib.Core.List.{List}
+use Prim.Native.Nat.{ℕ, _<_}
+use native.Mathlib.Omega.{arith}
+use Rattle.stages.specs.Mel.{Clause, Ground, Indep, goalsFrom, stages, checks}
+use Rattle.stages.specs.Plain.{All, Among, goalsOf, Sound, Grounded, Separate, Ascending}
+use Rattle.stages.proofs.Stages.{partition, stages-sound}
+use Rattle.stages.proofs.Checks.{grounds-listed, listed-grounds, indeps-listed, listed-indeps, checks-ascend}
+
+module _ (w head : ℕ) (sets : List ℕ) (n : ℕ) where
+  -- The stages partition the goals 1 to n in clause order,
+  pub stages-partition : goalsOf (stages w head sets n) ≡ goalsFrom n 0
+  stages-partition = partition w head sets n
+
+  -- in each no variable outside the head first occurs and occurs again, and each is as long as it can be.
+  pub stages-are-sound : All (Sound w head sets) (stages w head sets n)
+  stages-are-sound = stages-sound w head sets n
+
+module _ (c : Clause) (p q : ℕ) where
+  -- The ground checks left are the variables that two goals of the stage hold and that are not known ground,
+  pub ground-checks : (x : ℕ) → Among (Ground x) (checks c p q) ↔ ((x < c .width) × Grounded c p q x)
+  ground-checks x = (λ h. grounds-listed c p q x h, λ h. listed-grounds c p q x (h .0) (h .1))
+
+  -- the independence checks left are the pairs, lower first, of variables of two different goals, neither shared in the stage, not known
+  -- independent, both in the head or in goals before the stage,
+  pub indep-checks : (x y : ℕ) → Among (Indep x y) (checks c p q) ↔ ((y < c .width) × Separate c p q x y)
+  indep-checks x y =
+      (λ h. indeps-listed c p q x y h .1, λ h. listed-indeps c p q x y (omega (arith, h .0, h .1 .lower)) (h .0) (h .1))
+
+  -- and they stand in ascending order, the ground checks first, none twice.
+  pub checks-ascending : Ascending (checks c p q)
+  checks-ascending = checks-ascend c p q

@@ -1,0 +1,181 @@
+-- The sets of specs/Masks.antt have the members that specs/Mel.antt names. Assumes nothing.
+use mathlib.Core.Path.{_≡_, refl, sym, ap, _∙_}
+use mathlib.Core.Logic.{⊎-elim}
+use mathlib.Core.Bool.{Bool, true, false, _&&_, _||_, cond, false≢true, or-false}
+use mathlib.Core.List.{List}
+use Prim.Native.Nat.{ℕ, zero, suc, _+_, _-_, _≤_, _<_, suc-le-suc}
+use native.Mathlib.Nat.{eq-or-lt-of-le, le-of-suc-le-suc, le-step, lt-suc-self, le-refl}
+use native.Mathlib.Numerals.{add-one}
+use native.Mathlib.Omega.{arith}
+use lib.Dec.{ltb}
+use lib.ListN.{length, set, replicate, List·getD-eq-default}
+use borrow.Author.Tests.{lt-ltb}
+use Rattle.arrays.specs.Table.{table}
+use Rattle.arrays.proofs.Table.{table-at, table-zero, table-more}
+use Rattle.logic.proofs.Bools.{iff, and-l, and-r, and-i, or-elim, or-l, or-r, is-false}
+use Rattle.sets.specs.Sets.{has, union, meet}
+use Rattle.sets.proofs.Laws.{has-union, has-meet, has-empty, none-empty}
+use Rattle.stages.specs.Mel.{goal, someGoal, occurs, shared}
+use Rattle.stages.specs.Masks.{once, twice, upTo, homeFrom, home}
+use Rattle.stages.specs.Plain.{Twice}
+use Rattle.stages.proofs.Words.{Some, occurs-out, occurs-in, shared-out, shared-in}
+
+pub goal-out : (sets : List ℕ) (g : ℕ) → length sets ≤ g - 1 → 0 ≡ goal sets g
+unfolding goal
+goal-out sets g h = sym (List·getD-eq-default sets 0 h)
+
+module _ (sets : List ℕ) (p : ℕ) where
+  pub has-once : (q x : ℕ) → has (once sets p q) x ≡ occurs sets p q x
+  unfolding once occurs someGoal
+  has-once zero x = has-empty x
+  has-once (suc q) x = go (ltb p (suc q)) (has-once q x)
+    where
+      f : ℕ → Bool
+      f g = has (goal sets g) x
+
+      go : (b : Bool) → has (once sets p q) x ≡ someGoal p q (λ g. has (goal sets g) x)
+          → has (cond b (union (once sets p q) (goal sets (suc q))) (once sets p q)) x ≡ someGoal p q (λ g. has (goal sets g) x) || (b && has (goal sets (suc q)) x)
+      go true ih = has-union (once sets p q) (goal sets (suc q)) x ∙ ap (λ (t : Bool). t || has (goal sets (suc q)) x) ih
+      go false ih = ih ∙ sym (or-false (someGoal p q (λ g. has (goal sets g) x)))
+
+  later : (q x : ℕ) → Twice sets p q x → Twice sets p (suc q) x
+  later q x w = record { s = w .s; t = w .t; above = w .above; order = w .order; upto = le-step (w .upto); in-s = w .in-s; in-t = w .in-t }
+
+  twice-out : (q x : ℕ) → has (twice sets p q) x ≡ true → Twice sets p q x
+  unfolding twice
+  twice-out zero x h = absurd (false≢true (sym (has-empty x) ∙ h))
+  twice-out (suc q) x h = go (ltb p (suc q)) h (λ e. later q x (twice-out q x e))
+    where
+      go : (b : Bool) → has (cond b (union (twice sets p q) (meet (once sets p q) (goal sets (suc q)))) (twice sets p q)) x ≡ true
+          → (has (twice sets p q) x ≡ true → Twice sets p (suc q) x) → Twice sets p (suc q) x
+      go true h ih =
+          or-elim (has (twice sets p q) x) (has (meet (once sets p q) (goal sets (suc q))) x) (sym (has-union (twice sets p q) (meet (once sets p q) (goal sets (suc q))) x) ∙ h) ih
+          (λ e.
+          let both = sym (has-meet (once sets p q) (goal sets (suc q)) x) ∙ e in
+          let s = occurs-out sets p q x (sym (has-once q x) ∙ and-l (has (once sets p q) x) (has (goal sets (suc q)) x) both) in
+          record {
+            s = s .g;
+            t = suc q;
+            above = s .above;
+            order = omega (arith, s .upto);
+            upto = le-refl (suc q);
+            in-s = s .so;
+            in-t = and-r (has (once sets p q) x) (has (goal sets (suc q)) x) both;
+          })
+      go false h ih = ih h
+
+  twice-in : (q x : ℕ) → Twice sets p q x → has (twice sets p q) x ≡ true
+  unfolding twice
+  twice-in zero x w = absurd (omega (arith, w .above, w .order, w .upto))
+  twice-in (suc q) x w =
+      ⊎-elim
+      (λ e.
+      rw (lt-ltb p (suc q) (omega (arith, w .above, w .order, w .upto)))
+      (has-union (twice sets p q) (meet (once sets p q) (goal sets (suc q))) x
+      ∙ or-r (has (twice sets p q) x) (has (meet (once sets p q) (goal sets (suc q))) x)
+      (has-meet (once sets p q) (goal sets (suc q)) x
+      ∙ and-i (has (once sets p q) x) (has (goal sets (suc q)) x)
+      (has-once q x ∙ occurs-in sets p q x (w .s) (w .above) (omega (arith, w .order, w .upto)) (w .in-s))
+      (ap (λ (g : ℕ). has (goal sets g) x) (sym e) ∙ w .in-t))))
+      (λ k. go (ltb p (suc q)) (twice-in q x (record { s = w .s; t = w .t; above = w .above; order = w .order; upto = le-of-suc-le-suc k; in-s = w .in-s; in-t = w .in-t })))
+      (eq-or-lt-of-le (w .upto))
+    where
+      go : (b : Bool) → has (twice sets p q) x ≡ true → has (cond b (union (twice sets p q) (meet (once sets p q) (goal sets (suc q)))) (twice sets p q)) x ≡ true
+      go true ih = has-union (twice sets p q) (meet (once sets p q) (goal sets (suc q))) x ∙ or-l (has (twice sets p q) x) (has (meet (once sets p q) (goal sets (suc q))) x) ih
+      go false ih = ih
+
+  pub has-twice : (q x : ℕ) → has (twice sets p q) x ≡ shared sets p q x
+  has-twice q x = iff _ _ (λ e. shared-in sets p q x (twice-out q x e)) (λ e. twice-in q x (shared-out sets p q x e))
+
+  -- the steps of the loops
+  pub once-none : 0 ≡ once sets p p
+  once-none = sym (none-to p (le-refl p))
+    where
+      none-to : (q : ℕ) → q ≤ p → once sets p q ≡ 0
+      none-to q h = none-empty (once sets p q) (λ x. has-once q x ∙ is-false (occurs sets p q x) (λ e. let s = occurs-out sets p q x e in absurd (omega (arith, s .above, s .upto))))
+
+  pub twice-none : 0 ≡ twice sets p p
+  twice-none = sym (none-empty (twice sets p p) (λ x. has-twice p x ∙ is-false (shared sets p p x) (λ e. let w = shared-out sets p p x e in absurd (omega (arith, w .above, w .order, w .upto)))))
+
+  pub once-more : (g : ℕ) → p ≤ g → once sets p (g + 1) ≡ union (once sets p g) (goal sets (g + 1))
+  unfolding once
+  once-more g h = rw (add-one g, lt-ltb p (suc g) (suc-le-suc h))
+
+  pub twice-more : (g : ℕ) → p ≤ g → twice sets p (g + 1) ≡ union (twice sets p g) (meet (once sets p g) (goal sets (g + 1)))
+  unfolding twice
+  twice-more g h = rw (add-one g, lt-ltb p (suc g) (suc-le-suc h))
+
+-- ---- the variables of goals 1 to g, for each g
+
+module _ (sets : List ℕ) where
+  -- read as goal p, the variables before goal p
+  pub before-goal : (p : ℕ) → 0 < p → p ≤ 33 → goal (upTo sets) p ≡ once sets 0 (p - 1)
+  unfolding goal upTo
+  before-goal p z h = table-at 33 33 (λ g. once sets 0 g) (p - 1) (omega arith) (omega arith)
+
+  pub before-next : (p : ℕ) → p ≤ 32 → goal (upTo sets) (p + 1) ≡ once sets 0 p
+  before-next p h = let e : p + 1 - 1 ≡ p = omega arith in before-goal (p + 1) (omega arith) (omega arith) ∙ ap (once sets 0) e
+
+  -- filling the array
+  abbrev pub filled : ℕ → List ℕ
+  filled k = table 33 k (λ g. once sets 0 g)
+
+  pub upto-none : replicate 33 0 ≡ filled 0
+  upto-none = table-zero 33 (λ g. once sets 0 g)
+
+  pub upto-more : (g : ℕ) (l : List ℕ) (v : ℕ) → g < 33 → l ≡ filled g → v ≡ once sets 0 g → set l g v ≡ filled (g + 1)
+  upto-more g l v h e q = table-more 33 g (λ g. once sets 0 g) l v h e q
+
+  pub upto-all : (k : ℕ) → 33 ≤ k → k ≤ 33 → filled k ≡ upTo sets
+  unfolding upTo
+  upto-all k h l = let e : k ≡ 33 = omega arith in ap filled e
+
+-- ---- the goal that holds a variable
+
+module _ (sets : List ℕ) where
+  from-out : (k p x y : ℕ) → has (homeFrom sets k p x) y ≡ true → Some p (p + k) (λ s. has (goal sets s) x && has (goal sets s) y)
+  unfolding homeFrom
+  from-out zero p x y h = absurd (false≢true (sym (has-empty y) ∙ h))
+  from-out (suc k) p x y h = go (has (goal sets (suc p)) x) refl (from-out k (suc p) x y) h
+    where
+      go : (b : Bool) → has (goal sets (suc p)) x ≡ b
+          → (has (homeFrom sets k (suc p) x) y ≡ true → Some (suc p) (suc p + k) (λ s. has (goal sets s) x && has (goal sets s) y))
+          → has (cond b (goal sets (suc p)) (homeFrom sets k (suc p) x)) y ≡ true → Some p (p + suc k) (λ s. has (goal sets s) x && has (goal sets s) y)
+      go true e ih h = record { g = suc p; above = lt-suc-self p; upto = omega arith; so = and-i (has (goal sets (suc p)) x) (has (goal sets (suc p)) y) e h }
+      go false e ih h = let r = ih h in record { g = r .g; above = omega (arith, r .above); upto = omega (arith, r .upto); so = r .so }
+
+  from-in : (k p x y s : ℕ) → p < s → s ≤ p + k → has (goal sets s) x ≡ true → has (goal sets s) y ≡ true
+      → ((t : ℕ) → p < t → t < s → has (goal sets t) x ≡ false) → has (homeFrom sets k p x) y ≡ true
+  unfolding homeFrom
+  from-in zero p x y s a u ex ey none = absurd (omega arith)
+  from-in (suc k) p x y s a u ex ey none =
+      ⊎-elim
+      (λ e. let q : has (goal sets (suc p)) x ≡ true = ap (λ (g : ℕ). has (goal sets g) x) e ∙ ex in rw q (ap (λ (g : ℕ). has (goal sets g) y) e ∙ ey))
+      (λ l. rw (none (suc p) (lt-suc-self p) l) (from-in k (suc p) x y s l (omega arith) ex ey (λ t b. none t (omega arith))))
+      (eq-or-lt-of-le a)
+
+  -- y stands in a goal of p+1 to q that holds x; and if it does, and x is in no two, it stands in the first that does
+  pub home-out : (p q x y : ℕ) → has (home sets p q x) y ≡ true → Some p q (λ s. has (goal sets s) x && has (goal sets s) y)
+  unfolding home
+  home-out p q x y h =
+      let r = from-out (q - p) p x y h in
+      record { g = r .g; above = r .above; upto = omega (arith, r .above, r .upto); so = r .so }
+
+  pub home-in : (p q x y s : ℕ) → p < s → s ≤ q → has (goal sets s) x ≡ true → has (goal sets s) y ≡ true → (Twice sets p q x → ⊥) → has (home sets p q x) y ≡ true
+  unfolding home
+  home-in p q x y s a u ex ey one =
+      from-in (q - p) p x y s a (omega arith) ex ey (λ t b l.
+      is-false (has (goal sets t) x) (λ e. one (record { s = t; t = s; above = b; order = l; upto = u; in-s = e; in-t = ex })))
+
+  -- the steps of the loop
+  pub home-here : (p q x : ℕ) → p < q → has (goal sets (p + 1)) x ≡ true → goal sets (p + 1) ≡ home sets p q x
+  unfolding home homeFrom
+  home-here p q x l e = let n : q - p ≡ suc (q - (p + 1)) = omega arith in rw (n, sym (add-one p), e)
+
+  pub home-on : (p q x : ℕ) → p < q → has (goal sets (p + 1)) x ≡ false → home sets p q x ≡ home sets (p + 1) q x
+  unfolding home homeFrom
+  home-on p q x l e = let n : q - p ≡ suc (q - (p + 1)) = omega arith in rw (n, sym (add-one p), e)
+
+  pub home-none : (p q x : ℕ) → q ≤ p → 0 ≡ home sets p q x
+  unfolding home homeFrom
+  home-none p q x h = let n : q - p ≡ 0 = omega arith in rw n

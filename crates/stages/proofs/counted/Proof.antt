@@ -1,0 +1,81 @@
+use Prim.Native.Nat.{_≤_, _-_}
+use mathlib.Core.Path.{_≡_, sym}
+use native.Mathlib.Omega.{arith}
+use denote.Ref.{now}
+use Rattle.stages.specs.Masks as M
+use Rattle.stages.proofs.Masks.{once-none, once-more, twice-none, twice-more}
+use Rattle.stages.proofs.counted.Statement.{statement}
+use Rattle.stages.proofs.counted.Tie as tie
+
+abbrev Inv-loop : tie.InvT-loop
+Inv-loop sets p q m₀ t₀ g₀ m t g = (p ≤ g) × ((g ≤ q) × ((m ≡ M.once sets p g) × (t ≡ M.twice sets p g)))
+
+abbrev μ-loop : tie.MeasureT-loop
+μ-loop sets p q m₀ t₀ g₀ m t g = q - g
+
+-- src/lib.rt:46:5
+loop-holds : tie.Need-loop-holds Inv-loop μ-loop
+loop-holds c = (omega arith, (omega arith, (once-none _ _, twice-none _ _)))
+
+-- src/lib.rt:47:28
+add-goal : tie.Need-add-goal Inv-loop μ-loop
+add-goal c = omega arith
+
+-- src/lib.rt:47:13
+goal-requires : tie.Need-goal-requires Inv-loop μ-loop
+goal-requires c κs = omega arith
+
+-- src/lib.rt:48:28
+meet-requires : tie.Need-meet-requires Inv-loop μ-loop
+meet-requires c κs = omega arith
+
+-- src/lib.rt:48:9
+union-requires : tie.Need-union-requires Inv-loop μ-loop
+union-requires c κs = omega arith
+
+-- src/lib.rt:49:9
+union-requires-2 : tie.Need-union-requires-2 Inv-loop μ-loop
+union-requires-2 c κs = omega arith
+
+-- src/lib.rt:50:9
+add-g : tie.Need-add-g Inv-loop μ-loop
+add-g c = omega arith
+
+-- src/lib.rt:46:5
+loop-less : tie.Need-loop-less Inv-loop μ-loop
+loop-less c = omega arith
+
+-- src/lib.rt:46:5
+loop-again : tie.Need-loop-again Inv-loop μ-loop
+loop-again c =
+    let l = c .before .before .before .before .before .loop in (
+      omega arith,
+      (
+        omega arith,
+        (
+          rw (c .union2 .ensures, c .before .before .before .goal .ensures, l .inv .1 .1 .0) (sym (once-more _ _ _ (omega arith))),
+          rw (c .before .union .ensures, c .before .before .meet .ensures, c .before .before .before .goal .ensures, l .inv .1 .1 .0, l .inv .1 .1 .1) (sym (twice-more _ _ _ (omega arith))),
+        ),
+      ),
+    )
+
+-- src/lib.rt:39:1
+returns : tie.Need-returns Inv-loop μ-loop
+returns c = let e : c .before .loop .g ≡ c .before .before .before .args .q = omega arith in (cc, cc)
+
+pub counted-spec : {M : Type 1} → statement M
+counted-spec =
+    tie.close
+    (tie.spec
+    Inv-loop
+    μ-loop
+    loop-holds
+    add-goal
+    goal-requires
+    meet-requires
+    union-requires
+    union-requires-2
+    add-g
+    loop-less
+    loop-again
+    returns)

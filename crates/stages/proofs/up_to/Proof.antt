@@ -1,0 +1,73 @@
+use Prim.Native.Nat.{_≤_, _-_}
+use mathlib.Core.Path.{_≡_, _∙_, sym}
+use native.Mathlib.Omega.{arith}
+use denote.Ref.{now}
+use Rattle.stages.specs.Masks as M
+use Rattle.stages.proofs.Masks.{once-none, once-more, filled, upto-none, upto-more, upto-all}
+use Rattle.stages.proofs.up_to.Statement.{statement}
+use Rattle.stages.proofs.up_to.Tie as tie
+
+abbrev Inv-loop : tie.InvT-loop
+Inv-loop sets set₀ m₀ g₀ set m g = (g ≤ 33) × ((m ≡ M.once sets 0 g) × (set ≡ filled sets g))
+
+abbrev μ-loop : tie.MeasureT-loop
+μ-loop sets set₀ m₀ g₀ set m g = 33 - g
+
+-- src/lib.rt:30:5
+loop-holds : tie.Need-loop-holds Inv-loop μ-loop
+loop-holds c = (omega arith, (once-none _ _, upto-none _))
+
+-- src/lib.rt:31:9
+mul-set : tie.Need-mul-set Inv-loop μ-loop
+mul-set c = omega arith
+
+-- src/lib.rt:31:9
+array-write-set : tie.Need-array-write-set Inv-loop μ-loop
+array-write-set c = omega arith
+
+-- src/lib.rt:32:9
+add-g : tie.Need-add-g Inv-loop μ-loop
+add-g c = omega arith
+
+-- src/lib.rt:33:28
+goal-requires : tie.Need-goal-requires Inv-loop μ-loop
+goal-requires c κs = omega arith
+
+-- src/lib.rt:33:9
+union-requires : tie.Need-union-requires Inv-loop μ-loop
+union-requires c κs = omega arith
+
+-- src/lib.rt:30:5
+loop-less : tie.Need-loop-less Inv-loop μ-loop
+loop-less c = omega arith
+
+-- src/lib.rt:30:5
+loop-again : tie.Need-loop-again Inv-loop μ-loop
+loop-again c =
+    let l = c .before .before .before .loop in (
+      omega arith,
+      (
+        rw (c .union .ensures, c .before .goal .ensures, l .inv .1 .0) (sym (once-more _ _ _ (omega arith))),
+        upto-more _ (l .g) (l .set) _ (omega arith) (l .inv .1 .1) (l .inv .1 .0),
+      ),
+    )
+
+-- src/lib.rt:24:1
+returns : tie.Need-returns Inv-loop μ-loop
+returns c = let l = c .before .loop in l .inv .1 .1 ∙ upto-all _ (l .g) (omega arith) (omega arith)
+
+pub up-to-spec : {M : Type 1} → statement M
+up-to-spec =
+    tie.close
+    (tie.spec
+    Inv-loop
+    μ-loop
+    loop-holds
+    mul-set
+    array-write-set
+    add-g
+    goal-requires
+    union-requires
+    loop-less
+    loop-again
+    returns)

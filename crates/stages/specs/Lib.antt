@@ -1,0 +1,4 @@
+pub mod Mel
+pub mod Masks
+pub mod Plain
+pub mod Drafts

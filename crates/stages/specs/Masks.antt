@@ -1,0 +1,52 @@
+-- The same by masks: the sets that the code computes, of goals given as a list of masks. proofs/Masks.antt says that they have the members that
+-- specs/Mel.antt names.
+-- Assumes nothing.
+use mathlib.Core.Bool.{_||_, cond}
+use mathlib.Core.List.{List}
+use Prim.Native.Nat.{ℕ, zero, suc, _+_, _-_}
+use lib.Dec.{ltb}
+use Rattle.arrays.specs.Table.{table}
+use Rattle.sets.specs.Sets.{has, union, meet, without, below}
+use Rattle.stages.specs.Mel.{Clause, goal}
+
+-- a clause with 64 variables: its ground sets as a list, one a goal, and its listed pairs as rows, the set of x's partners at place x
+unfoldable pub given : ℕ → List ℕ → List ℕ → List ℕ → Clause
+given head sets grounds rows =
+    record {
+      width = 64;
+      head = head;
+      sets = sets;
+      ground = λ g. goal grounds g;
+      known = λ g x y. has (goal rows (x + 1)) y || has (goal grounds g) x || has (goal grounds g) y;
+    }
+
+module _ (sets : List ℕ) (p : ℕ) where
+  -- the variables of goals p+1 to q
+  unfoldable pub once : ℕ → ℕ
+  once zero = 0
+  once (suc q) = let m = once q in cond (ltb p (suc q)) (union m (goal sets (suc q))) m
+
+  -- those in two or more of them
+  unfoldable pub twice : ℕ → ℕ
+  twice zero = 0
+  twice (suc q) = let m = twice q in cond (ltb p (suc q)) (union m (meet (once q) (goal sets (suc q)))) m
+
+-- at place g the variables of goals 1 to g, for g up to 32
+unfoldable pub upTo : List ℕ → List ℕ
+upTo sets = table 33 33 (λ g. once sets 0 g)
+
+-- the set of the first of the goals p+1 to p+k that holds x, empty if none does
+unfoldable pub homeFrom : List ℕ → ℕ → ℕ → ℕ → ℕ
+homeFrom sets zero p x = 0
+homeFrom sets (suc k) p x = let r = homeFrom sets k (suc p) x in cond (has (goal sets (suc p)) x) (goal sets (suc p)) r
+
+unfoldable pub home : List ℕ → ℕ → ℕ → ℕ → ℕ
+home sets p q x = homeFrom sets (q - p) p x
+
+-- the variables that may stand in an independence check of a stage: in one of its goals, met before it, in no two of its goals, not known ground
+unfoldable pub candidates : ℕ → ℕ → ℕ → ℕ → ℕ
+candidates once₁ twice₁ met₁ ground = without (without (meet once₁ met₁) twice₁) ground
+
+-- of the candidates k those that stand in a check with x, x the lower: not known independent of x (x's row), not in x's goal, above x
+unfoldable pub partners : List ℕ → ℕ → ℕ → ℕ → ℕ → ℕ → ℕ
+partners sets p q k row x = without (without (without k row) (home sets p q x)) (below (x + 1))

@@ -1,0 +1,114 @@
+// The stages of the MEL annotation and their checks, by masks over the goals' variable sets. Goals are numbered from 1.
+ghost use mathlib.Core.Path.{_≡_};
+ghost use Prim.Native.Nat.{ℕ, _+_, _<_, _≤_, _^_};
+ghost use Rattle.stages.specs.Mel as W;
+ghost use Rattle.stages.specs.Masks as M;
+
+// The variable set of goal g, empty past the last goal.
+pub fn goal(sets: &[u64], g: usize) -> u64
+    requires { ⌜ 1 ≤ g ⌝ }
+    ensures { λ r. ⌜ r ≡ W.goal (now (sets .entry)) g ⌝ }
+{
+    let i = g - 1;
+    if i < sets.len() {
+        return sets[i];
+    }
+    0
+}
+
+// At place g the variables of goals 1 to g.
+pub struct UpTo {
+    pub set: [u64; 33],
+}
+
+pub fn up_to(sets: &[u64]) -> UpTo
+    ensures { λ r. ⌜ r .set ≡ M.upTo (now (sets .entry)) ⌝ }
+{
+    let mut set = [0u64; 33];
+    let mut m = 0u64;
+    let mut g: usize = 0;
+    while g < 33 {
+        set[g] = m;
+        g += 1;
+        m = sets::union(m, goal(sets, g));
+    }
+    UpTo { set }
+}
+
+// The p of goals 1 to q, from q downward; `before` is what up_to gives, so that place p - 1, read as goal p, has the variables before goal p.
+pub fn start_of(head: u64, sets: &[u64], before: &[u64], q: usize) -> usize
+    requires { ⌜ q ≤ 32 ⌝ }
+    requires { ⌜ now before ≡ M.upTo (now sets) ⌝ }
+    ensures { λ r. ⌜ r ≡ W.start 64 head (now (sets .entry)) q ⌝ }
+{
+    let mut after = 0u64;
+    let mut p = q;
+    while 0 < p {
+        let g = p;
+        p -= 1;
+        let s = goal(sets, g);
+        let first = sets::without(sets::without(s, head), goal(before, g));
+        if sets::meet(first, after) != 0 {
+            return g;
+        }
+        after = sets::union(after, s);
+    }
+    0
+}
+
+// The variables of goals p+1 to q, and those that are in two or more of them.
+pub struct Seen {
+    pub once: u64,
+    pub twice: u64,
+}
+
+pub fn counted(sets: &[u64], p: usize, q: usize) -> Seen
+    requires { ⌜ (p ≤ q) × (q < 2 ^ 32) ⌝ }
+    ensures { λ r. ⌜ (r .once ≡ M.once (now (sets .entry)) p q) × (r .twice ≡ M.twice (now (sets .entry)) p q) ⌝ }
+{
+    let mut m = 0u64;
+    let mut t = 0u64;
+    let mut g = p;
+    while g < q {
+        let s = goal(sets, g + 1);
+        t = sets::union(t, sets::meet(m, s));
+        m = sets::union(m, s);
+        g += 1;
+    }
+    Seen { once: m, twice: t }
+}
+
+// The set of the first of the goals p+1 to q that holds x, empty if none does.
+pub fn home(sets: &[u64], p: usize, q: usize, x: u32) -> u64
+    requires { ⌜ (p ≤ q) × (q < 2 ^ 32) ⌝ }
+    requires { ⌜ x < 64 ⌝ }
+    ensures { λ r. ⌜ r ≡ M.home (now (sets .entry)) p q x ⌝ }
+{
+    let mut g = p;
+    while g < q {
+        let s = goal(sets, g + 1);
+        if sets::has(s, x) {
+            return s;
+        }
+        g += 1;
+    }
+    0
+}
+
+// The variables that may stand in an independence check of a stage.
+pub fn candidates(s: Seen, met: u64, ground: u64) -> u64
+    ensures { λ r. ⌜ r ≡ M.candidates (s .once) (s .twice) met ground ⌝ }
+{
+    sets::without(sets::without(sets::meet(s.once, met), s.twice), ground)
+}
+
+// Those of the candidates k that stand in a check with x, above it.
+pub fn partners(sets: &[u64], p: usize, q: usize, k: u64, row: u64, x: u32) -> u64
+    requires { ⌜ (p ≤ q) × (q < 2 ^ 32) ⌝ }
+    requires { ⌜ x < 64 ⌝ }
+    ensures { λ r. ⌜ r ≡ M.partners (now (sets .entry)) p q k row x ⌝ }
+{
+    let h = home(sets, p, q, x);
+    let b = sets::below(x + 1);
+    sets::without(sets::without(sets::without(k, row), h), b)
+}
