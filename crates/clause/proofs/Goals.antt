@@ -1,0 +1,37 @@
+-- Filling the sets of the goals. Assumes nothing.
+use mathlib.Core.Path.{_≡_, refl, sym, ap, _∙_}
+use mathlib.Core.List.{List}
+use Prim.Native.Nat.{ℕ, suc, _+_, _-_, _<_}
+use native.Mathlib.Omega.{arith}
+use lib.ListN.{set, replicate}
+use Rattle.arrays.specs.Table.{table}
+use Rattle.arrays.proofs.Table.{table-zero, table-more}
+use Rattle.record.specs.Fields as F
+use Rattle.record.specs.Fields.{goalCount, headSet, groundSet, goalSet, placeAfter}
+use Rattle.clause.specs.declared.Clause.{Clause}
+use Rattle.clause.specs.Clause.{goalSets, pairRows, clause}
+
+module _ (b : List ℕ) where
+  -- the sets of the first g goals
+  unfoldable pub setsAfter : ℕ → List ℕ
+  setsAfter g = table 32 g (λ i. goalSet b (suc i))
+
+  pub sets-zero : replicate 32 0 ≡ setsAfter 0
+  unfolding setsAfter
+  sets-zero = table-zero 32 (λ i. goalSet b (suc i))
+
+  pub sets-more : (g at : ℕ) (l : List ℕ) (v : ℕ) → g < 32 → l ≡ setsAfter g → at ≡ placeAfter b g → v ≡ F.set b at → set l g v ≡ setsAfter (g + 1)
+  unfolding setsAfter goalSet
+  sets-more g at l v h e p q =
+      let one : g ≡ suc g - 1 = omega arith in
+      table-more 32 g (λ i. goalSet b (suc i)) l v h e (q ∙ ap (F.set b) (p ∙ ap (placeAfter b) one))
+
+  pub sets-all : (g : ℕ) → g ≡ goalCount b → setsAfter g ≡ goalSets b
+  unfolding setsAfter goalSets
+  sets-all g e = ap (λ (n : ℕ). table 32 n (λ i. goalSet b (suc i))) e
+
+  -- a clause with these parts
+  pub made : (n head ground : ℕ) (sets rows : List ℕ) → n ≡ goalCount b → head ≡ headSet b → ground ≡ groundSet b → sets ≡ goalSets b → rows ≡ pairRows b
+      → _≡_ {A = Clause} (record { n = n; head = head; ground = ground; sets = sets; rows = rows }) (clause b)
+  unfolding clause
+  made n head ground sets rows en eh eg es er = cc

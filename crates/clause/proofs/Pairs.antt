@@ -1,0 +1,192 @@
+-- Marking the listed pairs in their rows, one pair after the other. Assumes nothing.
+use mathlib.Core.Path.{_≡_, refl, sym, ap, ap₂, _∙_, subst}
+use mathlib.Core.Bool.{Bool, true, false, _&&_, _||_}
+use mathlib.Core.List.{List}
+use Prim.Native.Nat.{ℕ, zero, suc, _+_, _*_, _%_, _^_, _≤_, _<_}
+use native.Mathlib.Decide.{decLt, ℕ-discrete}
+use native.Mathlib.Nat.{zero-lt-suc}
+use native.Mathlib.Numerals.{add-one}
+use native.Mathlib.Omega.{arith}
+use lib.Dec.{eqb, ltb}
+use lib.ListN.{length, getD, set, replicate, length-set, length-replicate, getD-replicate}
+use lib.Seq.{getD-set-same, getD-set-other}
+use borrow.Author.Tests.{eq-eqb, ne-eqb, lt-ltb, le-ltb, ltb-false}
+use Rattle.logic.specs.Quantifiers.{someBelow}
+use Rattle.arrays.specs.Table.{table}
+use Rattle.arrays.proofs.Table.{table-length, table-at, table-ext}
+use Rattle.sets.specs.Sets.{has, union, single, setOf}
+use Rattle.sets.proofs.Laws.{has-union, has-single, has-empty, shl-single}
+use Rattle.sets.proofs.Builder.{single-lt, union-lt, has-setOf-in, setOf-lt, setOf-ext}
+use Rattle.record.specs.Fields.{byte, pairCount, pairAt, listed}
+use Rattle.clause.specs.Clause.{pairRows}
+
+-- ---- j joins row i
+
+unfoldable pub put : List ℕ → ℕ → ℕ → List ℕ
+put l i j = set l i (union (getD l i 0) (single j))
+
+-- rows of masks below 2 ^ 64
+abbrev Fits : List ℕ → Type 0
+Fits l = (x : ℕ) → x < 64 → getD l x 0 < 2 ^ 64
+
+or-false : (p : Bool) → p || false ≡ p
+or-false true = refl
+or-false false = refl
+
+-- as the machine computes it
+pub put-shifted : (l : List ℕ) (i j : ℕ) → j < 64 → set l i (union (getD l i 0) (1 * 2 ^ j % 2 ^ 64)) ≡ put l i j
+unfolding put
+put-shifted l i j h = ap (λ (m : ℕ). set l i (union (getD l i 0) m)) (shl-single 64 j h)
+
+put-length : (l : List ℕ) (i j : ℕ) → length (put l i j) ≡ length l
+unfolding put
+put-length l i j = length-set l i (union (getD l i 0) (single j))
+
+put-at : (l : List ℕ) (i j x : ℕ) → i < length l → (P : ℕ → Type 0) → P (getD l x 0) → (x ≡ i → P (union (getD l x 0) (single j))) → P (getD (put l i j) x 0)
+unfolding put
+put-at l i j x h P p q = go (ℕ-discrete x i)
+  where
+    v : ℕ
+    v = union (getD l i 0) (single j)
+
+    go : Dec (x ≡ i) → P (getD (set l i v) x 0)
+    go (yes e) = subst P (ap (λ (z : ℕ). union (getD l z 0) (single j)) e ∙ sym (ap (λ (z : ℕ). getD (set l i v) z 0) e ∙ getD-set-same l i v 0 h)) (q e)
+    go (no n) = subst P (sym (getD-set-other l i x v 0 n)) p
+
+put-fits : (l : List ℕ) (i j : ℕ) → i < length l → j < 64 → Fits l → Fits (put l i j)
+put-fits l i j h hj f x hx = put-at l i j x h (λ (m : ℕ). m < 2 ^ 64) (f x hx) (λ e. union-lt 64 (getD l x 0) (single j) (f x hx) (single-lt 64 j hj))
+
+put-has : (l : List ℕ) (i j x y : ℕ) → i < length l → has (getD (put l i j) x 0) y ≡ has (getD l x 0) y || (eqb i x && eqb j y)
+unfolding put
+put-has l i j x y h = go (ℕ-discrete x i)
+  where
+    v : ℕ
+    v = union (getD l i 0) (single j)
+
+    go : Dec (x ≡ i) → has (getD (set l i v) x 0) y ≡ has (getD l x 0) y || (eqb i x && eqb j y)
+    go (yes e) =
+        ap (λ (z : ℕ). has (getD (set l i v) z 0) y) e ∙ ap (λ (z : ℕ). has z y) (getD-set-same l i v 0 h) ∙ has-union (getD l i 0) (single j) y
+        ∙ ap₂ _||_ (ap (λ (z : ℕ). has (getD l z 0) y) (sym e)) (has-single j y ∙ sym (ap (λ (t : Bool). t && eqb j y) (eq-eqb i x (sym e))))
+    go (no n) =
+        ap (λ (z : ℕ). has z y) (getD-set-other l i x v 0 n)
+        ∙ sym (ap (λ (t : Bool). has (getD l x 0) y || (t && eqb j y)) (ne-eqb i x (λ e. n (sym e))) ∙ or-false (has (getD l x 0) y))
+
+-- ---- the rows of the first k pairs
+
+module _ (b : List ℕ) where
+  abbrev pairIs : ℕ → ℕ → ℕ → Bool
+  pairIs x y k = (eqb (byte b (pairAt b k)) x && eqb (byte b (pairAt b k + 1)) y) || (eqb (byte b (pairAt b k)) y && eqb (byte b (pairAt b k + 1)) x)
+
+  abbrev within : ℕ → ℕ → ℕ → Bool
+  within k x y = someBelow k (pairIs x y)
+
+  unfoldable pub rowsAfter : ℕ → List ℕ
+  rowsAfter k = table 64 64 (λ x. setOf 64 (within k x))
+
+  abbrev Marks : ℕ → List ℕ → Type 0
+  Marks k l = (x y : ℕ) → x < 64 → y < 64 → has (getD l x 0) y ≡ within k x y
+
+  rows-ext : (k : ℕ) (l : List ℕ) → length l ≡ 64 → Fits l → Marks k l → l ≡ rowsAfter k
+  unfolding rowsAfter
+  rows-ext k l n f m =
+      table-ext 64 64 (λ x. setOf 64 (within k x)) l n (λ x hx hx₂. setOf-ext 64 (getD l x 0) (within k x) (f x hx) (λ y hy. m x y hx hy))
+      (λ x hx l₂. absurd (omega arith))
+
+  rows-length : (k : ℕ) → length (rowsAfter k) ≡ 64
+  unfolding rowsAfter
+  rows-length k = table-length 64 64 (λ x. setOf 64 (within k x))
+
+  rows-at : (k x : ℕ) → x < 64 → getD (rowsAfter k) x 0 ≡ setOf 64 (within k x)
+  unfolding rowsAfter
+  rows-at k x h = table-at 64 64 (λ x. setOf 64 (within k x)) x h h
+
+  rows-fit : (k : ℕ) → Fits (rowsAfter k)
+  rows-fit k x h = subst (λ (m : ℕ). m < 2 ^ 64) (sym (rows-at k x h)) (setOf-lt 64 (within k x))
+
+  rows-mark : (k : ℕ) → Marks k (rowsAfter k)
+  rows-mark k x y hx hy = ap (λ (m : ℕ). has m y) (rows-at k x hx) ∙ has-setOf-in 64 (within k x) y hy
+
+  within-none : (x y : ℕ) → false ≡ within 0 x y
+  unfolding someBelow
+  within-none x y = refl
+
+  within-more : (k x y : ℕ) → within (k + 1) x y ≡ within k x y || pairIs x y k
+  unfolding someBelow
+  within-more k x y = rw add-one
+
+  pub rows-zero : replicate 64 0 ≡ rowsAfter 0
+  rows-zero =
+      rows-ext 0 (replicate 64 0) (length-replicate {A = ℕ} 64 0) (λ x h. subst (λ (m : ℕ). m < 2 ^ 64) (sym (getD-replicate 64 x 0 0 h)) (zero-lt-suc _))
+      (λ x y hx hy. ap (λ (m : ℕ). has m y) (getD-replicate 64 x 0 0 hx) ∙ has-empty y ∙ within-none x y)
+
+  two-ways : (p q r s t : Bool) → (p || (q && r)) || (s && t) ≡ p || ((q && r) || (t && s))
+  two-ways true q r s t = refl
+  two-ways false q r true t = ap (λ (z : Bool). (q && r) || z) (one t)
+    where
+      one : (t : Bool) → t ≡ t && true
+      one true = refl
+      one false = refl
+  two-ways false q r false t = ap (λ (z : Bool). (q && r) || z) (none t)
+    where
+      none : (t : Bool) → false ≡ t && false
+      none true = refl
+      none false = refl
+
+  -- a pair of variables below 64 is marked in both its rows
+  pub rows-more : (k i j : ℕ) (l : List ℕ) → i < 64 → j < 64 → i ≡ byte b (pairAt b k) → j ≡ byte b (pairAt b k + 1) → l ≡ rowsAfter k
+      → put (put l i j) j i ≡ rowsAfter (k + 1)
+  rows-more k i j l hi hj ei ej e =
+      subst (λ (m : List ℕ). put (put m i j) j i ≡ rowsAfter (k + 1)) (sym e)
+      (rows-ext (k + 1) (put (put r i j) j i) (put-length (put r i j) j i ∙ put-length r i j ∙ rows-length k)
+      (put-fits (put r i j) j i lj hi (put-fits r i j li hj (rows-fit k)))
+      (λ x y hx hy.
+      put-has (put r i j) j i x y lj ∙ ap (λ (t : Bool). t || (eqb j x && eqb i y)) (put-has r i j x y li ∙ ap (λ (t : Bool). t || (eqb i x && eqb j y)) (rows-mark k x y hx hy))
+      ∙ two-ways (within k x y) (eqb i x) (eqb j y) (eqb j x) (eqb i y) ∙ ap (λ (t : Bool). within k x y || t) (same x y) ∙ sym (within-more k x y)))
+    where
+      r : List ℕ
+      r = rowsAfter k
+
+      li : i < length r
+      li = omega (arith, rows-length k)
+
+      lj : j < length (put r i j)
+      lj = omega (arith, rows-length k, put-length r i j)
+
+      same : (x y : ℕ) → (eqb i x && eqb j y) || (eqb i y && eqb j x) ≡ pairIs x y k
+      same x y = ap₂ (λ (p q : ℕ). (eqb p x && eqb q y) || (eqb p y && eqb q x)) ei ej
+
+  pub rows-turn : (k i j : ℕ) (l : List ℕ) → i < 64 → j < 64 → i ≡ byte b (pairAt b k) → j ≡ byte b (pairAt b k + 1) → l ≡ rowsAfter k
+      → (let m = set l i (union (getD l i 0) (1 * 2 ^ j % 2 ^ 64)) in set m j (union (getD m j 0) (1 * 2 ^ i % 2 ^ 64))) ≡ rowsAfter (k + 1)
+  rows-turn k i j l hi hj ei ej e =
+      put-shifted (set l i (union (getD l i 0) (1 * 2 ^ j % 2 ^ 64))) j i hi ∙ ap (λ (m : List ℕ). put m j i) (put-shifted l i j hj)
+      ∙ rows-more k i j l hi hj ei ej e
+
+  -- any other pair is in no row
+  pub rows-same : (k i j : ℕ) (l : List ℕ) → ltb i 64 && ltb j 64 ≡ false → i ≡ byte b (pairAt b k) → j ≡ byte b (pairAt b k + 1) → l ≡ rowsAfter k
+      → l ≡ rowsAfter (k + 1)
+  rows-same k i j l h ei ej e =
+      e
+      ∙ rows-ext (k + 1) (rowsAfter k) (rows-length k) (rows-fit k)
+      (λ x y hx hy. rows-mark k x y hx hy ∙ sym (within-more k x y ∙ ap (λ (t : Bool). within k x y || t) (none x y hx hy) ∙ or-false (within k x y)))
+    where
+      and-none : (p q : Bool) → q ≡ false → p && q ≡ false
+      and-none true q e = e
+      and-none false q e = refl
+
+      other : (m z : ℕ) → ltb m 64 ≡ false → z < 64 → eqb m z ≡ false
+      other m z f hz = ne-eqb m z (λ s. absurd (omega (arith, ltb-false m 64 f)))
+
+      outside : Dec (i < 64) → (x y : ℕ) → x < 64 → y < 64 → (eqb i x && eqb j y) || (eqb i y && eqb j x) ≡ false
+      outside (yes p) x y hx hy =
+          let f : ltb j 64 ≡ false = sym (ap (λ (t : Bool). t && ltb j 64) (lt-ltb i 64 p)) ∙ h in
+          ap₂ _||_ (and-none (eqb i x) (eqb j y) (other j y f hy)) (and-none (eqb i y) (eqb j x) (other j x f hx))
+      outside (no p) x y hx hy =
+          let f : ltb i 64 ≡ false = le-ltb i 64 (omega arith) in
+          ap₂ (λ (s t : Bool). (s && eqb j y) || (t && eqb j x)) (other i x f hx) (other i y f hy)
+
+      none : (x y : ℕ) → x < 64 → y < 64 → pairIs x y k ≡ false
+      none x y hx hy = sym (ap₂ (λ (p q : ℕ). (eqb p x && eqb q y) || (eqb p y && eqb q x)) ei ej) ∙ outside (decLt i 64) x y hx hy
+
+  pub rows-all : (k : ℕ) → k ≡ pairCount b → rowsAfter k ≡ pairRows b
+  unfolding rowsAfter pairRows listed
+  rows-all k e = ap (λ (n : ℕ). table 64 64 (λ x. setOf 64 (within n x))) e
