@@ -1,0 +1,170 @@
+-- What nodes and rows tell of what is read: one member more, and the end of a join.
+use mathlib.Core.Path.{_≡_, refl, sym, ap, ap₂, _∙_}
+use mathlib.Core.Bool.{Bool, true, false, _&&_, _||_, cond, or-assoc, or-false}
+use mathlib.Core.List.{List}
+use mathlib.Core.Option.{Option, none, some}
+use mathlib.Core.Logic.{⊎-elim}
+use Prim.Native.Nat.{ℕ, zero, suc, _+_, _-_, _<_, _≤_}
+use native.Mathlib.Omega.{arith}
+use lib.Dec.{eqb, leb}
+use borrow.Author.Tests.{eq-eqb, ne-eqb, eqb-true, eqb-false, le-leb, leb-false}
+use Rattle.sets.specs.Sets.{has, union, single}
+use Rattle.sets.proofs.Laws.{has-union, has-empty, has-single}
+use Rattle.graph.specs.Graph.{ahead}
+use Rattle.expression.specs.Expr.{Expr, goal, join, Members, one, more, times, timesM, stands, standsM, before, beforeM}
+use Rattle.expression.proofs.Bools.{test, by-test}
+use Rattle.grammar.specs.Reader.{Front, close, push}
+use Rattle.rows.specs.Rows.{Words, Linked}
+use Rattle.parser.specs.declared.Kind.{Kind}
+use Rattle.parser.specs.declared.Kind.the-variants.{Goal, Group as Groups, Sequence as Sequences}
+use Rattle.parser.specs.Reads.{maskOf, kindOf, Told}
+
+-- ---- Booleans
+bool-push : (r bx bm k s x y m : Bool) → (r || (bx || bm || (k && x && m) || (k && (s && (y || m))))) ≡ ((r || bx || (k && (s && y))) || (bm || (k && ((s || x) && m))))
+bool-push true bx bm k s x y m = refl
+bool-push false true bm k s x y m = refl
+bool-push false false true true true x true m = refl
+bool-push false false true true true x false m = refl
+bool-push false false true true false x y m = refl
+bool-push false false true false s x y m = refl
+bool-push false false false true true true true true = refl
+bool-push false false false true true true false true = refl
+bool-push false false false true false true y true = refl
+bool-push false false false true true true y false = refl
+bool-push false false false true false true y false = refl
+bool-push false false false true true false y m = refl
+bool-push false false false true false false y m = refl
+bool-push false false false false s x y m = refl
+
+bool-first : (r bx bm k x y m : Bool) → (r || (bx || bm || (k && x && m))) ≡ ((r || bx || (k && (false && y))) || (bm || (k && (x && m))))
+bool-first true bx bm k x y m = refl
+bool-first false true bm k x y m = refl
+bool-first false false true true x y m = refl
+bool-first false false true false x y m = refl
+bool-first false false false true x y m = refl
+bool-first false false false false x y m = refl
+
+-- ---- sets
+stands-or : (a b : ℕ) → leb 1 (a + b) ≡ (leb 1 a || leb 1 b)
+stands-or zero b = let e : zero + b ≡ b = omega arith in ap (λ z. leb 1 z) e
+stands-or (suc a) b = le-leb 1 (suc a + b) (omega arith) ∙ ap (λ z. z || leb 1 b) (sym (le-leb 1 (suc a) (omega arith)))
+
+-- ---- a number
+pub told-goal : (v : ℕ) (rows : List ℕ) → 1 ≤ v → Words rows → Told (goal v) rows Goal (maskOf v) rows
+told-goal v rows lo w =
+    record {
+      kinds = refl;
+      stand = λ i h. by-test (λ m. has m i ≡ stands (goal v) (suc i)) (leb v 32) (λ t. small i) (λ t. large i h (leb-false v 32 t));
+      order = λ i j h k. sym (or-false (ahead rows (suc i) (suc j)));
+      words = w;
+    }
+  where
+    none-one : (b : Bool) → b ≡ leb 1 (cond b 1 0)
+    none-one true = refl
+    none-one false = refl
+
+    same : (i : ℕ) → eqb (v - 1) i ≡ eqb (suc i) v
+    same i = ⊎-elim
+        (λ t. eq-eqb (v - 1) i (omega (arith, eqb-true (suc i) v t)) ∙ sym t)
+        (λ t. ne-eqb (v - 1) i (λ e. eqb-false (suc i) v t (omega arith)) ∙ sym t)
+        (test (eqb (suc i) v))
+
+    small : (i : ℕ) → has (single (v - 1)) i ≡ stands (goal v) (suc i)
+    small i = has-single (v - 1) i ∙ same i ∙ none-one (eqb (suc i) v)
+
+    large : (i : ℕ) → i < 32 → 32 < v → has 0 i ≡ stands (goal v) (suc i)
+    large i h lt = has-empty i ∙ sym (ne-eqb (suc i) v (λ e. omega arith)) ∙ none-one (eqb (suc i) v)
+
+-- ---- the front of a join
+abbrev pub joinKind : Bool → Kind
+joinKind true = Sequences
+joinKind false = Groups
+
+kind-join : (k : Bool) (x : Expr) (ms : Members) → kindOf (join k x ms) ≡ joinKind k
+kind-join true x ms = refl
+kind-join false x ms = refl
+
+-- x is what the members ms make of a front of which the set and the rows tell
+pub record Tells (k : Bool) (x : Expr) (ms : Members) (rows₀ : List ℕ) (set : ℕ) (rows : List ℕ) : Type 0 where
+  pub kinds : kindOf x ≡ joinKind k
+  pub stand : (i : ℕ) → i < 32 → stands x (suc i) ≡ (has set i || standsM ms (suc i))
+  pub order : (i j : ℕ) → i < 32 → j < 32
+      → (ahead rows₀ (suc i) (suc j) || before x (suc i) (suc j)) ≡ (ahead rows (suc i) (suc j) || (beforeM k ms (suc i) (suc j) || (k && (has set i && standsM ms (suc j)))))
+
+abbrev pub FrontTold : Bool → Front → List ℕ → ℕ → List ℕ → Type 0
+FrontTold k none rows₀ set rows = (set ≡ 0) × (rows ≡ rows₀)
+FrontTold k (some h) rows₀ set rows = (ms : Members) → Tells k (h ms) ms rows₀ set rows
+
+-- in a sequence the members before are before the new one
+pub record Links (k : Bool) (set part : ℕ) (rows now : List ℕ) : Type 0 where
+  pub words : Words now
+  pub order : (i j : ℕ) → i < 32 → j < 32 → ahead now (suc i) (suc j) ≡ (ahead rows (suc i) (suc j) || (k && (has set i && has part j)))
+
+pub links-sequence : (set part : ℕ) (rows now : List ℕ) → Linked set part rows now → Links true set part rows now
+links-sequence set part rows now h = record { words = h .words; order = λ i j l l′. h .order i j l }
+
+pub links-group : (set part : ℕ) (rows : List ℕ) → Words rows → Links false set part rows rows
+links-group set part rows w = record { words = w; order = λ i j l l′. sym (or-false (ahead rows (suc i) (suc j))) }
+
+module _ (k : Bool) (rows₀ : List ℕ) (set : ℕ) (rows : List ℕ) (x : Expr) (kind : Kind) (part : ℕ) (mid now : List ℕ) where
+  set-is : Told x rows kind part mid → (i : ℕ) → i < 32 → has (union set part) i ≡ (has set i || stands x (suc i))
+  set-is t i h = has-union set part i ∙ ap (λ z. has set i || z) (t .stand i h)
+
+  now-is : Told x rows kind part mid → Links k set part mid now → (i j : ℕ) → i < 32 → j < 32
+      → ahead now (suc i) (suc j) ≡ (ahead rows (suc i) (suc j) || before x (suc i) (suc j) || (k && (has set i && stands x (suc j))))
+  now-is t l i j h h′ = l .order i j h h′ ∙ ap₂ (λ a b. a || (k && (has set i && b))) (t .order i j h h′) (t .stand j h′)
+
+  -- a first member alone: nothing is put before it
+  pub told-alone : FrontTold k none rows₀ set rows → Told x rows kind part mid → Links k set part mid now → Told x rows₀ kind part now
+  told-alone h t l =
+      let blank : (i : ℕ) → has set i ≡ false = λ i. ap (λ z. has z i) (h .0) ∙ has-empty i in
+      record {
+        kinds = t .kinds;
+        stand = t .stand;
+        order = λ i j lt lt′.
+            l .order i j lt lt′ ∙ ap (λ b. ahead mid (suc i) (suc j) || (k && (b && has part j))) (blank i) ∙ nothing k (ahead mid (suc i) (suc j))
+            ∙ t .order i j lt lt′ ∙ ap (λ z. ahead z (suc i) (suc j) || before x (suc i) (suc j)) (h .1);
+        words = l .words;
+      }
+    where
+      nothing : (k a : Bool) → (a || (k && false)) ≡ a
+      nothing true a = or-false a
+      nothing false a = or-false a
+
+  pub told-push : (f : Front) → FrontTold k f rows₀ set rows → Told x rows kind part mid → Links k set part mid now
+      → FrontTold k (some (push k f x)) rows₀ (union set part) now
+  told-push none h t l = λ ms.
+      let empty : (i : ℕ) → has set i ≡ false = λ i. ap (λ z. has z i) (h .0) ∙ has-empty i in
+      let set-now : (i : ℕ) → i < 32 → has (union set part) i ≡ stands x (suc i) = λ i lt. set-is t i lt ∙ ap (λ z. z || stands x (suc i)) (empty i) in
+      record {
+        kinds = kind-join k x ms;
+        stand = λ i lt. stands-or (times x (suc i)) (timesM ms (suc i)) ∙ ap (λ z. z || standsM ms (suc i)) (sym (set-now i lt));
+        order = λ i j lt lt′.
+            bool-first (ahead rows₀ (suc i) (suc j)) (before x (suc i) (suc j)) (beforeM k ms (suc i) (suc j)) k (stands x (suc i)) (stands x (suc j)) (standsM ms (suc j))
+            ∙ ap₂ (λ a b. a || (beforeM k ms (suc i) (suc j) || (k && (b && standsM ms (suc j)))))
+            (ap₂ (λ a b. ahead a (suc i) (suc j) || before x (suc i) (suc j) || (k && (b && stands x (suc j)))) (sym (h .1)) (sym (empty i)) ∙ sym (now-is t l i j lt lt′))
+            (sym (set-now i lt));
+      }
+  told-push (some f) h t l = λ ms.
+      let r = h (more x ms) in
+      record {
+        kinds = r .kinds;
+        stand = λ i lt. r .stand i lt ∙ ap (λ z. has set i || z) (stands-or (times x (suc i)) (timesM ms (suc i))) ∙ sym (or-assoc (has set i) (stands x (suc i)) (standsM ms (suc i)))
+            ∙ ap (λ z. z || standsM ms (suc i)) (sym (set-is t i lt));
+        order = λ i j lt lt′.
+            r .order i j lt lt′
+            ∙ ap (λ z. ahead rows (suc i) (suc j) || (beforeM k (more x ms) (suc i) (suc j) || (k && (has set i && z)))) (stands-or (times x (suc j)) (timesM ms (suc j)))
+            ∙ bool-push (ahead rows (suc i) (suc j)) (before x (suc i) (suc j)) (beforeM k ms (suc i) (suc j)) k (has set i) (stands x (suc i)) (stands x (suc j)) (standsM ms (suc j))
+            ∙ ap₂ (λ a b. a || (beforeM k ms (suc i) (suc j) || (k && (b && standsM ms (suc j))))) (sym (now-is t l i j lt lt′)) (sym (set-is t i lt));
+      }
+
+  pub told-close : (f : Members → Expr) → FrontTold k (some f) rows₀ set rows → Told x rows kind part mid → Links k set part mid now
+      → Told (close (some f) x) rows₀ (joinKind k) (union set part) now
+  told-close f h t l =
+      let r = h (one x) in
+      record {
+        kinds = sym (r .kinds);
+        stand = λ i lt. set-is t i lt ∙ sym (r .stand i lt);
+        words = l .words;
+        order = λ i j lt lt′. now-is t l i j lt lt′ ∙ or-assoc (ahead rows (suc i) (suc j)) (before x (suc i) (suc j)) (k && (has set i && stands x (suc j))) ∙ sym (r .order i j lt lt′);
+      }

@@ -1,0 +1,92 @@
+use Prim.Native.Nat.{_<_}
+use native.Mathlib.Omega.{arith}
+use lib.ListN.{length}
+use borrow.Author.Needs.{needs}
+use Rattle.sets.specs.Sets.{members}
+use Rattle.sets.proofs.Members.{first-in}
+use Rattle.rows.proofs.Linking.{Linking, linking-start, linking-turn, linking-less, linking-end}
+use Rattle.rows.proofs.link.Statement.{statement}
+use Rattle.rows.proofs.link.Tie as tie
+use Rattle.rows.proofs.link.Reads as reads
+use Rattle.rows.proofs.link.Lts as lts
+use Rattle.sets.proofs.first32.Reads as first32-reads
+use Rattle.sets.proofs.single32.Reads as single32-reads
+use Rattle.sets.proofs.without32.Reads as without32-reads
+
+abbrev Inv-loop : tie.InvT-loop
+Inv-loop rows₀ front later left₀ rows left = Linking front later rows₀ rows left
+
+abbrev μ-loop : tie.MeasureT-loop
+μ-loop rows₀ front later left₀ rows left = length (members 32 left)
+
+-- src/lib.rt:9:5
+loop-holds : tie.Need-loop-holds Inv-loop μ-loop
+loop-holds c = linking-start _ _ _ (c .pre) (search needs)
+
+-- src/lib.rt:10:13
+first32-requires : tie.Need-first32-requires Inv-loop μ-loop
+first32-requires c κs = search needs
+
+-- the first of what is left is below 32
+row : (c : tie.After-first32 Inv-loop μ-loop) → c .first32 .result < 32
+row c =
+    let l = first-in 32 (c .before .before .loop .left) (c .before .before .loop .inv .rest) (c .before .loop-test .taken) in
+    omega (arith, c .first32 .ensures)
+
+-- src/lib.rt:11:19
+mul-rows : tie.Need-mul-rows Inv-loop μ-loop
+mul-rows c = let l = row c in search needs
+
+-- src/lib.rt:11:19
+element-copy-out-rows : tie.Need-element-copy-out-rows Inv-loop μ-loop
+element-copy-out-rows c = row c
+
+-- src/lib.rt:11:9
+mul-rows-2 : tie.Need-mul-rows-2 Inv-loop μ-loop
+mul-rows-2 c = let l = row (c .before) in search needs
+
+-- src/lib.rt:11:9
+element-write-rows : tie.Need-element-write-rows Inv-loop μ-loop
+element-write-rows c = row (c .before)
+
+-- src/lib.rt:12:38
+single32-requires : tie.Need-single32-requires Inv-loop μ-loop
+single32-requires c κs = row (c .before)
+
+-- src/lib.rt:12:9
+without32-requires : tie.Need-without32-requires Inv-loop μ-loop
+without32-requires c κs = search needs
+
+-- src/lib.rt:9:5
+loop-less : tie.Need-loop-less Inv-loop μ-loop
+loop-less c =
+    let l = c .before .before .before .before .before .loop in
+    linking-less _ _ _ (l .left) _ _ _ (c .before .before .before .first32 .ensures) (c .before .single32 .ensures) (c .without32 .ensures) _ (c .before .before .before .before .loop-test .taken) (l .inv)
+
+-- src/lib.rt:9:5
+loop-again : tie.Need-loop-again Inv-loop μ-loop
+loop-again c =
+    let l = c .before .before .before .before .before .loop in
+    linking-turn _ _ _ (l .rows) (l .left) _ _ _ (c .before .before .before .first32 .ensures) (c .before .single32 .ensures) (c .without32 .ensures) (search needs) (c .before .before .before .before .loop-test .taken) (l .inv)
+
+-- src/lib.rt:5:1
+returns : tie.Need-returns Inv-loop μ-loop
+returns c = linking-end _ _ _ _ _ (search needs) (c .before .loop .inv)
+
+pub link-spec : {M : Type 1} → statement M
+link-spec =
+    tie.close
+    (tie.spec
+    Inv-loop
+    μ-loop
+    loop-holds
+    first32-requires
+    mul-rows
+    element-copy-out-rows
+    mul-rows-2
+    element-write-rows
+    single32-requires
+    without32-requires
+    loop-less
+    loop-again
+    returns)
