@@ -7,11 +7,12 @@ use Prim.Native.Nat.{ℕ, zero, suc, _≤_, _<_}
 use native.Mathlib.Omega.{arith}
 use native.Mathlib.Decide.{decLe}
 use lib.ListN.{length}
+use Rattle.logic.proofs.Bools.{is-false}
 use Rattle.expression.specs.Expr.{Expr, goal, join, Members, one, more, Goals, HouseForm, NoN, Order}
 use Rattle.expression.specs.Form.{form, chosen, upFrom}
 use Rattle.expression.specs.Arrange.{Strict, rename, renameM, at, row, along, place, arrange, formRow, formList, formOnAny, formAny}
 use Rattle.expression.proofs.Fits.{In, InM, Apart, Cross, Fits, FitsM}
-use Rattle.expression.proofs.Bools.{test, by-test}
+use Rattle.expression.proofs.Bools.{by-test}
 use Rattle.expression.proofs.Exists.{Form, form-set, form-on, Member, chosen-member, chosen-goals, member-up}
 use Rattle.expression.proofs.Restore.{restored}
 use Rattle.expression.proofs.Search.{is-n, n-is}
@@ -108,7 +109,7 @@ module _ (R : ℕ → ℕ → Bool) where
 
   module _ (S : ℕ → Type 0) (o : Strict R S) where
     unback : (i j : ℕ) → S i → S j → R i j ≡ true → R j i ≡ false
-    unback i j si sj h = ⊎-elim (λ t. absurd (true≢false (sym (o .chained i j i si sj si h t) ∙ o .unlike i si))) (λ t. t) (test (R j i))
+    unback i j si sj h = is-false (R j i) (λ t. true≢false (sym (o .chained i j i si sj si h t) ∙ o .unlike i si))
 
     place-row : (v : ℕ) (l : List ℕ) → S v → ((i : ℕ) → Member i l → S i) → Row l → Row (place R v l)
     place-row v [] sv s r = ((λ y h. absurd h), tt)
@@ -117,7 +118,7 @@ module _ (R : ℕ → ℕ → Bool) where
         (λ t. (
           (λ y h.
               ⊎-elim (λ e. subst (λ z. R z v ≡ false) (sym e) (unback v x sv (s x (inl refl)) t))
-              (λ m. ⊎-elim (λ u. absurd (true≢false (sym (o .chained y v x (s y (inr m)) sv (s x (inl refl)) u t) ∙ r .0 y m))) (λ u. u) (test (R y v))) h),
+              (λ m. is-false (R y v) (λ u. true≢false (sym (o .chained y v x (s y (inr m)) sv (s x (inl refl)) u t) ∙ r .0 y m))) h),
           r,
         ))
         (λ t. (

@@ -5,9 +5,10 @@ use mathlib.Core.Logic.{_⊎_, inl, inr, ⊎-elim}
 use Prim.Native.Nat.{ℕ, zero, suc, _≤_, _<_}
 use native.Mathlib.Nat.{eq-or-lt-of-le}
 use native.Mathlib.Omega.{arith}
+use Rattle.logic.proofs.Bools.{is-false}
 use Rattle.expression.specs.Expr.{Goals, Order}
 use Rattle.expression.specs.Closure.{Chain, wait, link, closed}
-use Rattle.expression.proofs.Bools.{test, and-true, or-true as or-cases}
+use Rattle.expression.proofs.Bools.{and-true, or-true as or-cases}
 
 module _ (W : ℕ → ℕ → Bool) where
   -- each step lets in no pair without a chain
@@ -79,7 +80,7 @@ module _ (W : ℕ → ℕ → Bool) where
       ⊎-elim (λ (e : k ≡ suc n). ap (λ x. closed W x i j) (sym e))
       (λ (q : k < suc n).
       let b : closed W n (suc n) j ≡ false
-      = ⊎-elim (λ t. absurd (omega (arith, chain-rising r n (suc n) j (closed-chain n n (suc n) j (omega arith) t)))) (λ t. t) (test (closed W n (suc n) j)) in
+      = is-false (closed W n (suc n) j) (λ t. omega (arith, chain-rising r n (suc n) j (closed-chain n n (suc n) j (omega arith) t))) in
       let c : closed W n i j ≡ closed W k i j = closed-cut r n k i j (omega arith) g in
       simp (b, c, and-none, or-none))
       (eq-or-lt-of-le h)

@@ -5,6 +5,7 @@ use mathlib.Core.Logic.{_⊎_, inl, inr, ⊎-elim, _↔_}
 use Prim.Native.Nat.{ℕ, _+_, _≤_, _<_}
 use native.Mathlib.Omega.{arith}
 use borrow.Author.Tests.{leb-true, le-leb}
+use Rattle.logic.proofs.Bools.{iff}
 use Rattle.expression.specs.Expr.{Expr, goal, join, Members, one, more, times, timesM, before, Once, NoJoin, Ascend, House, HouseM, least}
 use Rattle.expression.specs.Form.{joined}
 use Rattle.expression.specs.Restore.{parts, ahead, put, merge, restore, restoreM}
@@ -12,7 +13,7 @@ use Rattle.expression.proofs.Fits.{In, InM, Apart, Cross, Fits, FitsM}
 use Rattle.expression.proofs.Least.{least-in, least-le, leastM-le}
 use Rattle.expression.proofs.Pick.{ascend, joined-in, in-joined, joined-fits, joined-house}
 use Rattle.expression.proofs.Insert.{apart-sym}
-use Rattle.expression.proofs.Bools.{test, by-test, or-true as or-cases, or-false as or-parts, beq-true, beq-false}
+use Rattle.expression.proofs.Bools.{by-test, or-true as or-cases, or-false as or-parts, beq-true, beq-false}
 use Rattle.expression.proofs.Unique.{unique}
 use Rattle.expression.proofs.Spec.{in-times, times-in, fits-before, before-fits, before-in}
 
@@ -211,16 +212,16 @@ module _ (e : Expr) (u : Once e) where
   restore-house = restored (before e) e own .house
 
   pub restore-before : (i j : ℕ) → before (restore e) i j ≡ before e i j
-  restore-before i j = ⊎-elim inside (λ t. ⊎-elim (λ s. absurd (true≢false (sym (same s) ∙ t))) (λ s. s ∙ sym t) (test (before (restore e) i j))) (test (before e i j))
+  restore-before i j = iff (before (restore e) i j) (before e i j) back forth
     where
       r : Restored (before e) e (restore e)
       r = restored (before e) e own
 
-      inside : before e i j ≡ true → before (restore e) i j ≡ before e i j
-      inside t = let p = before-in e i j t in fits-before (before e) (restore e) (r .fits) i j (r .covers i .1 (p .0)) (r .covers j .1 (p .1))
+      back : before (restore e) i j ≡ true → before e i j ≡ true
+      back t = let p = before-in (restore e) i j t in sym (fits-before (before e) (restore e) (r .fits) i j (p .0) (p .1)) ∙ t
 
-      same : before (restore e) i j ≡ true → before e i j ≡ true
-      same t = let p = before-in (restore e) i j t in sym (fits-before (before e) (restore e) (r .fits) i j (p .0) (p .1)) ∙ t
+      forth : before e i j ≡ true → before (restore e) i j ≡ true
+      forth t = let p = before-in e i j t in fits-before (before e) (restore e) (r .fits) i j (r .covers i .1 (p .0)) (r .covers j .1 (p .1)) ∙ t
 
 -- Two expressions that use no number twice, with the same goals and the same order, are restored to the same.
 pub restore-eq : (e e′ : Expr) → Once e → ((i : ℕ) → times e i ≡ times e′ i) → ((i j : ℕ) → before e i j ≡ before e′ i j) → restore e ≡ restore e′

@@ -7,6 +7,7 @@ use native.Mathlib.Omega.{arith}
 use native.Mathlib.Decide.{decLe}
 use lib.Dec.{eqb}
 use borrow.Author.Tests.{eqb-true, eq-eqb, leb-true, le-leb}
+use Rattle.logic.proofs.Bools.{is-false}
 use Rattle.expression.specs.Expr.{Expr, goal, join, Members, one, more, times, timesM, stands, standsM, before, beforeM}
 use Rattle.expression.proofs.Fits.{In, InM, Cross, Fits, FitsM}
 use Rattle.expression.proofs.Bools.{test, or-true as or-cases, and-true as and-both}
@@ -50,10 +51,10 @@ in-standsM : (ms : Members) (i : ℕ) → InM i ms → standsM ms i ≡ true
 in-standsM ms i p = le-leb 1 (timesM ms i) (in-timesM ms i p)
 
 out-stands : (e : Expr) (i : ℕ) → (In i e → ⊥) → stands e i ≡ false
-out-stands e i n = ⊎-elim (λ t. absurd (n (stands-in e i t))) (λ t. t) (test (stands e i))
+out-stands e i n = is-false (stands e i) (λ t. n (stands-in e i t))
 
 out-standsM : (ms : Members) (i : ℕ) → (InM i ms → ⊥) → standsM ms i ≡ false
-out-standsM ms i n = ⊎-elim (λ t. absurd (n (timesM-in ms i (leb-true 1 (timesM ms i) t)))) (λ t. t) (test (standsM ms i))
+out-standsM ms i n = is-false (standsM ms i) (λ t. n (timesM-in ms i (leb-true 1 (timesM ms i) t)))
 
 -- ---- only goals of e are in order
 before-parts : (k : Bool) (e : Expr) (ms : Members) (i j : ℕ) → (before e i j ≡ true → In i e × In j e)
@@ -76,7 +77,7 @@ mutual
   beforeM-in k (more e ms) i j h = before-parts k e ms i j (λ t. before-in e i j t) (λ t. beforeM-in k ms i j t) h
 
 unless : {A : Type 0} (b : Bool) → (b ≡ true → A) → (A → ⊥) → b ≡ false
-unless b f n = ⊎-elim (λ t. absurd (n (f t))) (λ t. t) (test b)
+unless b f n = is-false b (λ t. n (f t))
 
 -- ---- the order of a join, part by part
 module _ (k : Bool) (e : Expr) (ms : Members) (d : (i : ℕ) → In i e → InM i ms → ⊥) (i j : ℕ) where

@@ -1,9 +1,11 @@
--- What an algorithm that splits a set of goals finds: the part of the set that hangs together with its smallest goal is the first member of the form, and what is left is the form of the other members.
+-- What an algorithm that splits a set of goals finds: the connected component of the smallest goal is the first member of the form, and what is left is the form of the
+-- other members.
 use mathlib.Core.Path.{_≡_, refl, sym, ap, _∙_}
 use mathlib.Core.Bool.{Bool, true, false, true≢false, false≢true}
 use mathlib.Core.Logic.{_⊎_, inl, inr, ⊎-elim, _↔_}
 use Prim.Native.Nat.{ℕ, _≤_}
 use native.Mathlib.Omega.{arith}
+use Rattle.logic.proofs.Bools.{is-false}
 use Rattle.expression.specs.Expr.{Expr, goal, join, Members, one, more, stands, NoJoin, HouseM, least, Order}
 use Rattle.expression.specs.Split.{Component, Starts}
 use Rattle.expression.proofs.Fits.{In, InM, Fits, FitsM, stay-in, connected, first, first-in, firstM, firstM-in}
@@ -11,7 +13,6 @@ use Rattle.expression.proofs.Least.{least-in, leastM-le}
 use Rattle.expression.proofs.Exists.{Form}
 use Rattle.expression.proofs.Unique.{Same, unique}
 use Rattle.expression.proofs.Spec.{stands-in, in-stands}
-use Rattle.expression.proofs.Bools.{test}
 
 -- Members that fit R, in house form, over the goals of P.
 pub record FormM (R : ℕ → ℕ → Bool) (k : Bool) (P : ℕ → Type 0) (ms : Members) : Type 0 where
@@ -55,11 +56,11 @@ pub data Peeled (R : ℕ → ℕ → Bool) (k : Bool) (P C : ℕ → Type 0) : M
 pub starts-low : (R : ℕ → ℕ → Bool) (k : Bool) {P : ℕ → Type 0} (x : ℕ) → Order R P → P x → ((i : ℕ) → P i → x ≤ i) → Starts R k P x
 starts-low R k x o h low = (
   (λ _. low),
-  (λ _ i p. ⊎-elim (λ t. absurd (omega (arith, o .rising i x p h t, low i p))) (λ t. t) (test (R i x))),
+  (λ _ i p. is-false (R i x) (λ t. omega (arith, o .rising i x p h t, low i p))),
 )
 
 module _ (R : ℕ → ℕ → Bool) (k : Bool) {P C : ℕ → Type 0} {x : ℕ} (c : Component R k P x C) where
-  -- a form that is no k join hangs together
+  -- a form that is no k join is connected
   pub unsplit : (e : Expr) → Form R P e → NoJoin k e → (i : ℕ) → P i → C i
   unsplit e f n i p =
       connected R k e (f .fits) n C (λ i j r s t u. c .closed i j u (f .covers j .0 s) t) x i

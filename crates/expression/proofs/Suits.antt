@@ -4,12 +4,13 @@ use mathlib.Core.Bool.{Bool, true, false, not, true≢false}
 use mathlib.Core.Logic.{inl, inr, ⊎-elim}
 use Prim.Native.Nat.{ℕ, _≤_, _<_}
 use native.Mathlib.Omega.{arith}
+use Rattle.logic.proofs.Bools.{is-false}
 use Rattle.expression.specs.Expr.{Expr, goal, join, Members, one, more, NoJoin, HouseM, NoN, Order}
 use Rattle.expression.specs.Form.{suits, suitsM}
 use Rattle.expression.specs.Split.{tie}
 use Rattle.expression.proofs.Fits.{In, InM, Apart, Fits, FitsM, connected}
 use Rattle.expression.proofs.Pick.{InP}
-use Rattle.expression.proofs.Bools.{test, and-true, and-false, or-true, or-false, not-true, either, beq-true, beq-false}
+use Rattle.expression.proofs.Bools.{and-true, and-false, or-true, or-false, not-true, either, beq-true, beq-false}
 
 module _ (R : ℕ → ℕ → Bool) (v : ℕ) (k : Bool) where
   mutual
@@ -45,7 +46,7 @@ module _ (R : ℕ → ℕ → Bool) (v : ℕ) (k : Bool) where
 -- v is put in, and is larger than the goals that are there
 module _ (R : ℕ → ℕ → Bool) (S : ℕ → Type 0) (o : Order R S) where
   pub no-back : {i j : ℕ} → S i → S j → i ≤ j → R j i ≡ false
-  no-back {i} {j} si sj h = ⊎-elim (λ t. absurd (omega (arith, o .rising j i sj si t))) (λ t. t) (test (R j i))
+  no-back {i} {j} si sj h = is-false (R j i) (λ t. omega (arith, o .rising j i sj si t))
 
   module _ (v : ℕ) (sv : S v) where
     pub apart : {k : Bool} {i : ℕ} → S i × (i < v) → R i v ≡ k → Apart R k i v

@@ -1,5 +1,5 @@
 -- The theorems on fork-join expressions, in the words of `specs/`. R is a relation on goals; T1 and T3 hold for any, T2 for any strict order.
---     the order           before-is, innermost-is, innermost-unique: `before` is the order of the paper's sentence
+--     the order           before-is, has-order-is, innermost-is, innermost-unique: `before` is the order of the paper's sentence
 --     T1, sound           order-no-n, induced-no-n, no-four: an order with an N has no expression, and neither have the four goals alone
 --     T2, complete        form-any, form-is: an order without an N has a house form; has-expression-any, has-expression: with T1
 --     T3, unique          form-unique: only one
@@ -8,13 +8,14 @@
 --     restore             restore-times, restore-before, restore-house, restore-same, restore-eq
 use mathlib.Core.Path.{_≡_, refl, sym, ap, ap₂, _∙_}
 use mathlib.Core.Bool.{Bool, true, _&&_, _||_, cond, true≢false, or-true}
-use mathlib.Core.Logic.{⊎-elim, _↔_, _≢_}
+use mathlib.Core.Logic.{_↔_, _≢_}
 use mathlib.Core.Option.{none, some}
 use Prim.Native.Nat.{ℕ, _≤_, _<_, _%_}
 use native.Mathlib.Omega.{arith}
 use lib.Dec.{eqb, ltb}
 use lib.ListN.{length}
 use borrow.Author.Tests.{eq-eqb, eqb-true, lt-ltb, ltb-true}
+use Rattle.logic.proofs.Bools.{iff, is-false}
 use Rattle.expression.specs.Expr.{Expr, times, stands, before, Once, Induces, UsesOnce, UsesFour, Goals, HasOrder, House, HouseForm, N, NoN, Order}
 use Rattle.expression.specs.Induced.{Holds, Innermost, Before}
 use Rattle.expression.specs.Form.{form}
@@ -23,7 +24,7 @@ use Rattle.expression.specs.Search.{Four, FirstN, firstN}
 use Rattle.expression.specs.Restore.{restore}
 use Rattle.expression.specs.Arrange.{Strict, formAny}
 use Rattle.expression.proofs.NoN.{no-n}
-use Rattle.expression.proofs.Bools.{test, and-true}
+use Rattle.expression.proofs.Bools.{and-true}
 use Rattle.expression.proofs.Exists.{form-on}
 use Rattle.expression.proofs.Split.{form-eq}
 use Rattle.expression.proofs.Spec.{times-in, stands-in, in-stands, before-fits, cond-le}
@@ -40,7 +41,14 @@ pub use Rattle.expression.proofs.Uses.{in-range, uses-once, uses-in, in
 pub before-is : (e : Expr) → Once e → (i j : ℕ) → (before e i j ≡ true) ↔ Before e i j
 before-is e u i j = Induced.before-is i j e u
 
--- and "the" innermost part that holds two goals is right: there is one, and just one.
+-- so to have an order is what the paper says it is;
+pub has-order-is : (R : ℕ → ℕ → Bool) (n : ℕ) (e : Expr) → UsesOnce n e → HasOrder R n e ↔ ((i j : ℕ) → Goals n i → Goals n j → Before e i j ↔ (R i j ≡ true))
+has-order-is R n e u = (
+  (λ h i j p q. let b = before-is e (uses-once n e u) i j in (λ x. sym (h i j p q) ∙ b .1 x, λ t. b .0 (h i j p q ∙ t))),
+  (λ h i j p q. let b = before-is e (uses-once n e u) i j in iff (before e i j) (R i j) (λ t. h i j p q .0 (b .0 t)) (λ t. b .1 (h i j p q .1 t))),
+)
+
+-- and "the innermost part" that holds two goals is right: there is one, and just one.
 pub innermost-is : (e : Expr) (i j : ℕ) → Holds e i → Holds e j → (p : Expr) × Innermost e i j p
 innermost-is e i j = Induced.innermost-is i j e
 
@@ -86,7 +94,7 @@ has-expression-any R n o h = (
 
 pub order-strict : (R : ℕ → ℕ → Bool) (S : ℕ → Type 0) → Order R S → Strict R S
 order-strict R S o =
-    record { unlike = λ i s. ⊎-elim (λ t. absurd (omega (arith, o .rising i i s s t))) (λ t. t) (test (R i i)); chained = o .chained }
+    record { unlike = λ i s. is-false (R i i) (λ t. omega (arith, o .rising i i s s t)); chained = o .chained }
 
 pub has-expression : (R : ℕ → ℕ → Bool) (n : ℕ) → Order R (Goals n) → 1 ≤ n → ((e : Expr) × UsesOnce n e × HasOrder R n e) ↔ NoN R (Goals n)
 has-expression R n o = has-expression-any R n (order-strict R (Goals n) o)

@@ -1,4 +1,4 @@
--- Examples of forms, first N and restored house forms; they hold by computation.
+-- Examples of orders, forms, first N and restored house forms; they hold by computation.
 use mathlib.Core.Path.{_≡_, refl}
 use mathlib.Core.Bool.{Bool, true, false, _&&_, _||_}
 use mathlib.Core.List.{List, [], _∷_}
@@ -6,7 +6,7 @@ use mathlib.Core.Option.{Option, none, some}
 use Prim.Native.Nat.{ℕ, _%_}
 use lib.Dec.{eqb, ltb}
 use lib.ListN.{length}
-use Rattle.expression.specs.Expr.{goal, join, one, more}
+use Rattle.expression.specs.Expr.{Expr, goal, join, one, more, before}
 use Rattle.expression.specs.Form.{form}
 use Rattle.expression.specs.Text.{text}
 use Rattle.expression.specs.Search.{Four, firstN}
@@ -25,6 +25,13 @@ formText n l = text (form (closed (waits l) n) n)
 
 abbrev firstFour : ℕ → List (ℕ × ℕ) → Option Four
 firstFour n l = firstN (closed (waits l) n) n
+
+-- (1,3)&2 has 1 before 3 and nothing else
+abbrev small : Expr
+small = join false (join true (goal 1) (one (goal 3))) (one (goal 2))
+
+orders : (before small 1 3 ≡ true) × (before small 3 1 ≡ false) × (before small 1 2 ≡ false) × (before small 2 3 ≡ false)
+orders = (refl, refl, refl, refl)
 
 forms
     : (formText 1 [] ≡ 49 ∷ [])  -- 1
