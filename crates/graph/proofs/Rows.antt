@@ -1,19 +1,21 @@
 -- Laws of rows: what the rows of a relation have, and that nothing else has it.
 use mathlib.Core.Path.{_≡_, refl, sym, ap, _∙_, subst}
-use mathlib.Core.Bool.{Bool, true, false, _&&_}
+use mathlib.Core.Bool.{Bool, true, false, _&&_, cond}
 use mathlib.Core.List.{List}
 use mathlib.Core.Logic.{dite}
-use Prim.Native.Nat.{ℕ, zero, suc, _^_, _≤_, _<_}
+use Prim.Native.Nat.{ℕ, zero, suc, _+_, _^_, _≤_, _<_}
+use native.Mathlib.Numerals.{add-one}
 use native.Mathlib.Nat.{lt-of-lt-of-le}
 use native.Mathlib.Decide.{decLt}
 use native.Mathlib.Omega.{arith}
 use lib.ListN.{length, getD, replicate, length-replicate, getD-replicate}
 use lib.Pow.{pow-pos, pow-mono}
-use Rattle.sets.specs.Sets.{has}
+use Rattle.sets.specs.Sets.{has, union, single, setOf}
 use Rattle.sets.proofs.Laws.{has-empty, has-above}
-use Rattle.sets.proofs.Builder.{setOf-lt, has-setOf-in, setOf-ext}
+use Rattle.sets.proofs.Builder.{setOf-lt, has-setOf-in, setOf-ext, setOf-more}
 use Rattle.arrays.proofs.Table.{table-length, table-at, table-past, table-ext}
-use Rattle.graph.specs.Graph.{hasGoal, ahead, goalsOf, rowsOf}
+use Rattle.arrays.specs.Table.{table}
+use Rattle.graph.specs.Graph.{hasGoal, ahead, goalsOf, rowsOf, column, transposed}
 
 -- the set of goals of which f holds
 pub goals-has : (n : ℕ) (f : ℕ → Bool) (g : ℕ) → 1 ≤ g → g ≤ n → hasGoal (goalsOf n f) g ≡ f g
@@ -79,3 +81,32 @@ pub rows-zero : (R : ℕ → ℕ → Bool) → replicate 32 0 ≡ rowsOf 0 R
 rows-zero R =
     rows-ext 0 R (replicate 32 0) (omega arith) (length-replicate {A = ℕ} 32 0) (λ i k. absurd (omega arith)) (λ i j a b c d. absurd (omega arith))
     (λ i b k. getD-replicate {A = ℕ} 32 i 0 0 b)
+
+-- ---- the goals before a goal, found one after another
+pub column-none : (rows : List ℕ) (j : ℕ) → 0 ≡ column rows 0 j
+unfolding column goalsOf
+column-none rows j = setOf-ext 0 0 (λ i. ahead rows (suc i) (suc j)) (pow-pos 0) (λ i l. absurd (omega arith))
+
+pub column-in : (rows : List ℕ) (i j : ℕ) → has (getD rows i 0) j ≡ true → column rows (i + 1) j ≡ union (column rows i j) (single i)
+unfolding column goalsOf
+column-in rows i j h =
+    rw (add-one i) (setOf-more i (λ k. ahead rows (suc k) (suc j)) ∙ ap (λ (b : Bool). cond b (union (setOf i (λ k. ahead rows (suc k) (suc j))) (single i)) (setOf i (λ k. ahead rows (suc k) (suc j)))) h)
+
+pub column-out : (rows : List ℕ) (i j : ℕ) → has (getD rows i 0) j ≡ false → column rows (i + 1) j ≡ column rows i j
+unfolding column goalsOf
+column-out rows i j h =
+    rw (add-one i) (setOf-more i (λ k. ahead rows (suc k) (suc j)) ∙ ap (λ (b : Bool). cond b (union (setOf i (λ k. ahead rows (suc k) (suc j))) (single i)) (setOf i (λ k. ahead rows (suc k) (suc j)))) h)
+
+-- ---- rows with every edge turned round
+pub transposed-is : (n : ℕ) (rows : List ℕ) → table 32 n (λ j. column rows n j) ≡ transposed n rows
+unfolding transposed rowsOf column
+transposed-is n rows = refl
+
+pub transposed-length : (n : ℕ) (rows : List ℕ) → length (transposed n rows) ≡ 32
+unfolding transposed
+transposed-length n rows = rows-length n (λ j i. ahead rows i j)
+
+-- on the goals they say the same the other way round
+pub transposed-says : (n : ℕ) (rows : List ℕ) (i j : ℕ) → n ≤ 32 → 1 ≤ i → i ≤ n → 1 ≤ j → j ≤ n → ahead (transposed n rows) j i ≡ ahead rows i j
+unfolding transposed
+transposed-says n rows i j h a b c d = rows-say n (λ k l. ahead rows l k) j i h c d a b

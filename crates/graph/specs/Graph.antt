@@ -32,3 +32,11 @@ graphOf n R = record { n = n; rows = rowsOf n R }
 -- the graph of n goals without an edge
 abbrev pub edgeless : ℕ → Graph
 edgeless n = record { n = n; rows = replicate 32 0 }
+
+-- those of the goals 1 to n that the rows have before goal j + 1
+unfoldable pub column : List ℕ → ℕ → ℕ → ℕ
+column rows n j = goalsOf n (λ i. ahead rows i (suc j))
+
+-- the rows of the goals 1 to n with every edge turned round
+unfoldable pub transposed : ℕ → List ℕ → List ℕ
+transposed n rows = rowsOf n (λ j i. ahead rows i j)

@@ -1,6 +1,7 @@
 // The dependency graph of a clause by value: the goal count, and for each goal the set of goals that it is before.
 ghost use mathlib.Core.Path.{_≡_};
-ghost use Prim.Native.Nat.{_-_, _≤_};
+ghost use Prim.Native.Nat.{_-_, _≤_, _<_};
+ghost use denote.Ref.{now};
 ghost use lib.ListN.{getD};
 ghost use Rattle.sets.specs.Sets as S;
 ghost use Rattle.graph.specs.Graph as G;
@@ -39,4 +40,32 @@ impl Graph {
         let i = g - 1;
         self.rows[i]
     }
+}
+
+// The goals that are before goal j + 1.
+fn column(rows: &[u32; Graph::MAX], n: usize, j: usize) -> u32
+    requires { ⌜ (n ≤ 32) × (j < 32) ⌝ }
+    ensures { λ r. ⌜ r ≡ G.column (now (rows .entry)) n j ⌝ }
+{
+    let mut set = 0u32;
+    for i in 0..n {
+        let row = rows[i];
+        if sets::has32(row, j) {
+            let one = sets::single32(i);
+            set = sets::union32(set, one);
+        }
+    }
+    set
+}
+
+// The rows with every edge turned round: row j has the goals that are before goal j + 1.
+pub fn transposed(rows: &[u32; Graph::MAX], n: usize) -> [u32; Graph::MAX]
+    requires { ⌜ n ≤ 32 ⌝ }
+    ensures { λ r. ⌜ r ≡ G.transposed n (now (rows .entry)) ⌝ }
+{
+    let mut prior = [0u32; Graph::MAX];
+    for j in 0..n {
+        prior[j] = column(rows, n, j);
+    }
+    prior
 }

@@ -1,0 +1,3 @@
+pub mod Scan
+pub mod Loops
+pub mod Candidates

@@ -1,0 +1,108 @@
+// The first N of an order: goals a, b, c, d with a before c, b before c, b before d and no other order among the four.
+ghost use mathlib.Core.Path.{_≡_};
+ghost use Prim.Native.Nat.{_<_, _≤_};
+ghost use denote.Ref.{now};
+ghost use Rattle.graph.specs.Graph.{ahead, transposed};
+ghost use Rattle.expression.specs.Search.{firstN};
+ghost use Rattle.first_n.specs.Found as F;
+ghost use Rattle.first_n.specs.Candidates as C;
+
+// Four goals, by their numbers from 1 on.
+pub struct Four {
+    pub a: usize,
+    pub b: usize,
+    pub c: usize,
+    pub d: usize,
+}
+
+pub enum Found {
+    Nothing,
+    At(Four),
+}
+
+// The goals that are in order with goal i + 1, either way.
+fn related(rows: &[u32; 32], prior: &[u32; 32], i: usize) -> u32
+    requires { ⌜ i < 32 ⌝ }
+    ensures { λ r. ⌜ r ≡ C.related (now (rows .entry)) (now (prior .entry)) i ⌝ }
+{
+    let after = rows[i];
+    let before = prior[i];
+    after | before
+}
+
+// The goals that goal i + 1 is before and that are not before it.
+fn later(rows: &[u32; 32], prior: &[u32; 32], i: usize) -> u32
+    requires { ⌜ i < 32 ⌝ }
+    ensures { λ r. ⌜ r ≡ C.later (now (rows .entry)) (now (prior .entry)) i ⌝ }
+{
+    let after = rows[i];
+    let before = prior[i];
+    sets::without32(after, before)
+}
+
+// The goals that can be d for a, b and some c: later than b, and not in order with a.
+fn fourths(rows: &[u32; 32], prior: &[u32; 32], a: usize, b: usize) -> u32
+    requires { ⌜ (a < 32) × (b < 32) ⌝ }
+    ensures { λ r. ⌜ r ≡ C.fourths (now (rows .entry)) (now (prior .entry)) a b ⌝ }
+{
+    let after_b = later(rows, prior, b);
+    let near_a = related(rows, prior, a);
+    sets::without32(after_b, near_a)
+}
+
+// The goals that can be c for a and b: later than both. None if a and b are in order, or if no goal can be d.
+fn thirds(rows: &[u32; 32], prior: &[u32; 32], a: usize, b: usize) -> u32
+    requires { ⌜ (a < 32) × (b < 32) ⌝ }
+    ensures { λ r. ⌜ r ≡ C.thirds (now (rows .entry)) (now (prior .entry)) a b ⌝ }
+{
+    let near_a = related(rows, prior, a);
+    if sets::has32(near_a, b) {
+        return 0;
+    }
+    if fourths(rows, prior, a, b) == 0 {
+        return 0;
+    }
+    let after_a = later(rows, prior, a);
+    let after_b = later(rows, prior, b);
+    sets::meet32(after_a, after_b)
+}
+
+// The goals that are d for a, b and c: those of the candidates that are not in order with c.
+fn lasts(rows: &[u32; 32], prior: &[u32; 32], a: usize, b: usize, c: usize) -> u32
+    requires { ⌜ (a < 32) × (b < 32) × (c < 32) ⌝ }
+    ensures { λ r. ⌜ r ≡ C.lasts (now (rows .entry)) (now (prior .entry)) a b c ⌝ }
+{
+    let ds = fourths(rows, prior, a, b);
+    let near_c = related(rows, prior, c);
+    sets::without32(ds, near_c)
+}
+
+// The first N among the goals 1 to n; `prior` is `rows` with every edge turned round.
+pub fn first_n(rows: &[u32; 32], prior: &[u32; 32], n: usize) -> Found
+    requires { ⌜ (n ≤ 32) × (now prior ≡ transposed n (now rows)) ⌝ }
+    ensures { λ r. ⌜ F.found r ≡ firstN (ahead (now (rows .entry))) n ⌝ }
+{
+    let mut answer = Found::Nothing;
+    'found: for a in 0..n {
+        for b in 0..n {
+            let cs = thirds(rows, prior, a, b);
+            for c in sets::first32(cs)..n {
+                if sets::has32(cs, c) {
+                    let ds = lasts(rows, prior, a, b, c);
+                    for d in sets::first32(ds)..n {
+                        if sets::has32(ds, d) {
+                            answer = Found::At(Four {
+                                a: a + 1,
+                                b: b + 1,
+                                c: c + 1,
+                                d: d + 1,
+                            });
+                            break 'found;
+                        }
+                    }
+                }
+            }
+        }
+    }
+    answer
+}
