@@ -1,7 +1,4 @@
--- The text of an expression is in the grammar, with that expression: what the writer writes, the check reads back, and calls "same".
---     written         UsesOnce n e → n ≤ 32 → Text 32 (text e) e
---     form-checked    HouseForm R n e → n ≤ 32 → checked n R (text e) ≡ same
--- Assumes nothing.
+-- The text of an expression is in the grammar, with that expression: what is written is read back as the same.
 use mathlib.Core.Path.{_≡_, refl, sym, ap, _∙_, subst}
 use mathlib.Core.Bool.{Bool, true, false, cond}
 use mathlib.Core.List.{List, [], _∷_, _++_}
@@ -11,7 +8,7 @@ use native.Mathlib.Omega.{arith}
 use lib.Dec.{ltb}
 use lib.ListN.{length}
 use borrow.Author.Tests.{ltb-true, ltb-false}
-use Rattle.expression.specs.Expr.{Expr, goal, join, Members, one, more, UsesOnce, HouseForm}
+use Rattle.expression.specs.Expr.{Expr, goal, join, Members, one, more, UsesOnce}
 use Rattle.expression.specs.Text.{mark, inner, run, text}
 use Rattle.expression.specs.Text
 use Rattle.expression.proofs.Bools.{by-test}
@@ -19,11 +16,11 @@ use Rattle.expression.proofs.Fits.{In, InM}
 use Rattle.expression.proofs.Theorems.{uses-in}
 use Rattle.expression.proofs.Length.{joins, joinsM, joins-few, text-fits}
 use Rattle.grammar.specs.Grammar.{Number, single, double, Joined, alone, several, Others, last, next, Member, group, number, parens, Text as TextOf}
-use Rattle.grammar.specs.Reader.{accepted, refused, read}
-use Rattle.grammar.specs.Check.{same, checked}
+use Rattle.grammar.specs.Reading.{answer, readText}
 use Rattle.grammar.proofs.Complete.{complete}
 use Rattle.grammar.proofs.Sound.{not-both}
-use Rattle.grammar.proofs.Meaning.{checked-same}
+use Rattle.grammar.proofs.Decides.{unambiguous}
+use Rattle.grammar.proofs.Readings.{read-answer}
 
 number-text : (g : ℕ) → 1 ≤ g → g < 100 → Number (Text.number g) g
 number-text g lo hi =
@@ -66,8 +63,16 @@ some-bytes : (d : ℕ) (t : List ℕ) (e : Expr) → TextOf d t e → 1 ≤ leng
 some-bytes d [] e j = absurd (not-both e 0 (complete d [] e j))
 some-bytes d (b ∷ t) e j = omega arith
 
-pub form-checked : (R : ℕ → ℕ → Bool) (n : ℕ) (e : Expr) → HouseForm R n e → n ≤ 32 → checked n R (text e) ≡ same
-form-checked R n e f h =
-    let j = written n e (f .uses) h in
-    checked-same n R (text e) .1 (record
-    { some-bytes = some-bytes 32 (text e) e j; few-bytes = omega (arith, text-fits n e (f .uses) h); expr = e; text = j; uses = f .uses; order = f .order })
+-- the text of an expression of the goals 1 to n is read as that expression
+pub written-read : (n : ℕ) (e : Expr) → UsesOnce n e → n ≤ 32 → readText n (text e) ≡ answer e
+written-read n e u h =
+    let j = written n e u h in
+    read-answer n (text e) e .1 (some-bytes 32 (text e) e j, omega (arith, text-fits n e u h), j, u)
+
+-- expressions of up to 99 goals have different texts unless they are the same
+pub text-same : (n m : ℕ) (e e′ : Expr) → UsesOnce n e → n < 100 → UsesOnce m e′ → m < 100 → text e ≡ text e′ → e ≡ e′
+text-same n m e e′ u h u′ h′ q =
+    let d = joins e + joins e′ in
+    let j : TextOf d (text e) e = written-text e d (λ i p. let r = uses-in n e u i p in (r .0, omega (arith, r .1))) (omega arith) in
+    let j′ : TextOf d (text e′) e′ = written-text e′ d (λ i p. let r = uses-in m e′ u′ i p in (r .0, omega (arith, r .1))) (omega arith) in
+    unambiguous d (text e′) e e′ (subst (λ t. TextOf d t e) q j) j′
