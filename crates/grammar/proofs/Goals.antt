@@ -1,5 +1,4 @@
 -- The numbers found in a text of the grammar are the goals of its expression, and nothing is wrong with them exactly if the expression uses each goal once.
--- Assumes nothing.
 use mathlib.Core.Path.{_≡_, refl, sym, ap, ap₂, _∙_, subst}
 use mathlib.Core.Bool.{Bool, true, false, _&&_, _||_, cond, true≢false, false≢true}
 use mathlib.Core.List.{List, [], _∷_, _++_, append-assoc, append-nil}

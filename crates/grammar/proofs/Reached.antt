@@ -1,5 +1,4 @@
 -- What the reader has read: the text up to a state, part by part, and that each state can be completed to a text of the grammar.
--- Assumes nothing.
 use mathlib.Core.Path.{_≡_, refl, sym, ap, _∙_, subst}
 use mathlib.Core.Bool.{Bool, true, false}
 use mathlib.Core.List.{List, [], _∷_, _++_, append-assoc, append-nil}

@@ -1,5 +1,4 @@
 -- What a byte's sign tells of the byte, and the other way.
--- Assumes nothing.
 use mathlib.Core.Path.{_≡_, refl, ap, sym}
 use mathlib.Core.Bool.{Bool, true, false, _&&_, cond}
 use Prim.Native.Nat.{ℕ, _+_, _-_, _<_, _≤_}

@@ -1,5 +1,4 @@
 -- What the reader accepts is in the grammar; where it refuses, the text before can be completed, and no text goes on so.
--- Assumes nothing.
 use mathlib.Core.Path.{_≡_, refl, sym, ap, _∙_, subst}
 use mathlib.Core.Bool.{Bool, true, false}
 use mathlib.Core.List.{List, [], _∷_, _++_, append-assoc, append-nil}

@@ -1,8 +1,4 @@
--- The text of an expression is in the grammar, with that expression: what the writer writes, the check reads back, and calls "same".
---     written         UsesOnce n e → n ≤ 32 → Text 32 (text e) e
---     text-unique     text e ≡ text e′ → e ≡ e′, where only numbers from 1 to 99 stand in e and e′: different house forms have different texts
---     form-checked    HouseForm R n e → n ≤ 32 → checked n R (text e) ≡ same
--- Assumes nothing.
+-- The text of an expression is in the grammar, with that expression: what is written is read back as the same.
 use mathlib.Core.Path.{_≡_, refl, sym, ap, _∙_, subst}
 use mathlib.Core.Bool.{Bool, true, false, cond}
 use mathlib.Core.List.{List, [], _∷_, _++_}
@@ -12,21 +8,19 @@ use native.Mathlib.Omega.{arith}
 use lib.Dec.{ltb}
 use lib.ListN.{length}
 use borrow.Author.Tests.{ltb-true, ltb-false}
-use Rattle.expression.specs.Expr.{Expr, goal, join, Members, one, more, stands, Goals, UsesOnce, HouseForm}
+use Rattle.expression.specs.Expr.{Expr, goal, join, Members, one, more, UsesOnce}
 use Rattle.expression.specs.Text.{mark, inner, run, text}
 use Rattle.expression.specs.Text
 use Rattle.expression.proofs.Bools.{by-test}
 use Rattle.expression.proofs.Fits.{In, InM}
 use Rattle.expression.proofs.Theorems.{uses-in}
-use Rattle.expression.proofs.Spec.{stands-in, in-stands}
 use Rattle.expression.proofs.Length.{joins, joinsM, joins-few, text-fits}
 use Rattle.grammar.specs.Grammar.{Number, single, double, Joined, alone, several, Others, last, next, Member, group, number, parens, Text as TextOf}
-use Rattle.grammar.specs.Reader.{accepted, refused, read}
-use Rattle.grammar.specs.Check.{same, checked}
+use Rattle.grammar.specs.Reading.{answer, readText}
 use Rattle.grammar.proofs.Complete.{complete}
 use Rattle.grammar.proofs.Sound.{not-both}
-use Rattle.grammar.proofs.Theorems.{unambiguous}
-use Rattle.grammar.proofs.Meaning.{checked-same}
+use Rattle.grammar.proofs.Decides.{unambiguous}
+use Rattle.grammar.proofs.Readings.{read-answer}
 
 number-text : (g : ℕ) → 1 ≤ g → g < 100 → Number (Text.number g) g
 number-text g lo hi =
@@ -64,27 +58,21 @@ written-text (join k e ms) d h le = as-sequence k d (inner e) (run k ms) e ms (i
 pub written : (n : ℕ) (e : Expr) → UsesOnce n e → n ≤ 32 → TextOf 32 (text e) e
 written n e u h = let j = joins-few n e u h in written-text e 32 (λ i p. let r = uses-in n e u i p in (r .0, omega (arith, r .1))) (omega arith)
 
--- Different expressions have different texts, in house form or not: only numbers from 1 to 99 must stand in them.
-pub text-unique : (e e′ : Expr) → ((i : ℕ) → stands e i ≡ true → Goals 99 i) → ((i : ℕ) → stands e′ i ≡ true → Goals 99 i) → text e ≡ text e′ → e ≡ e′
-text-unique e e′ h h′ q =
-    let d = joins e + joins e′ in
-    let j = written-text e d (λ i p. let r = h i (in-stands e i p) in (r .0, omega (arith, r .1))) (omega arith) in
-    let j′ = written-text e′ d (λ i p. let r = h′ i (in-stands e′ i p) in (r .0, omega (arith, r .1))) (omega arith) in
-    unambiguous d (text e) e e′ j (subst (λ t. TextOf d t e′) (sym q) j′)
-
--- In particular two expressions over the goals 1 to n.
-pub uses-text-unique : (n : ℕ) (e e′ : Expr) → UsesOnce n e → UsesOnce n e′ → n ≤ 99 → text e ≡ text e′ → e ≡ e′
-uses-text-unique n e e′ u u′ h =
-    text-unique e e′ (λ i p. let r = uses-in n e u i (stands-in e i p) in (r .0, omega (arith, r .1)))
-    (λ i p. let r = uses-in n e′ u′ i (stands-in e′ i p) in (r .0, omega (arith, r .1)))
-
 -- a text of the grammar is not empty
 some-bytes : (d : ℕ) (t : List ℕ) (e : Expr) → TextOf d t e → 1 ≤ length t
 some-bytes d [] e j = absurd (not-both e 0 (complete d [] e j))
 some-bytes d (b ∷ t) e j = omega arith
 
-pub form-checked : (R : ℕ → ℕ → Bool) (n : ℕ) (e : Expr) → HouseForm R n e → n ≤ 32 → checked n R (text e) ≡ same
-form-checked R n e f h =
-    let j = written n e (f .uses) h in
-    checked-same n R (text e) .1 (record
-    { some-bytes = some-bytes 32 (text e) e j; few-bytes = omega (arith, text-fits n e (f .uses) h); expr = e; text = j; uses = f .uses; order = f .order })
+-- the text of an expression of the goals 1 to n is read as that expression
+pub written-read : (n : ℕ) (e : Expr) → UsesOnce n e → n ≤ 32 → readText n (text e) ≡ answer e
+written-read n e u h =
+    let j = written n e u h in
+    read-answer n (text e) e .1 (some-bytes 32 (text e) e j, omega (arith, text-fits n e u h), j, u)
+
+-- expressions of up to 99 goals have different texts unless they are the same
+pub text-same : (n m : ℕ) (e e′ : Expr) → UsesOnce n e → n < 100 → UsesOnce m e′ → m < 100 → text e ≡ text e′ → e ≡ e′
+text-same n m e e′ u h u′ h′ q =
+    let d = joins e + joins e′ in
+    let j : TextOf d (text e) e = written-text e d (λ i p. let r = uses-in n e u i p in (r .0, omega (arith, r .1))) (omega arith) in
+    let j′ : TextOf d (text e′) e′ = written-text e′ d (λ i p. let r = uses-in m e′ u′ i p in (r .0, omega (arith, r .1))) (omega arith) in
+    unambiguous d (text e′) e e′ (subst (λ t. TextOf d t e) q j) j′

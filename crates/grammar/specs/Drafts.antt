@@ -1,5 +1,4 @@
--- The drafts on reading an expression, as one table that holds by computation.
--- Assumes nothing.
+-- The drafts on the check of an expression, and texts beside them, as one table that holds by computation.
 use mathlib.Core.Path.{_≡_, refl}
 use mathlib.Core.Bool.{Bool, true, false, _&&_}
 use mathlib.Core.List.{List, [], _∷_, _++_}
@@ -8,13 +7,14 @@ use lib.Dec.{eqb}
 use lib.ListN.{replicate}
 use Rattle.expression.specs.Expr.{Expr, goal, join, Members, one, more}
 use Rattle.grammar.specs.Reader.{read, Reading, accepted, refused}
-use Rattle.grammar.specs.Check.{Ruling, refusal, same, differs, checked}
+use Rattle.grammar.specs.Reading.{Ruling, refusal, answer, readText}
+use Rattle.grammar.specs.Check.{same, differs, firstDiffer, checked}
 
 -- 1 is before 2
 abbrev pair : ℕ → ℕ → Bool
 pair i j = eqb i 1 && eqb j 2
 
-drafts
+pub drafts
     : (read 32 (40 ∷ 40 ∷ 49 ∷ 41 ∷ 41 ∷ 44 ∷ 50 ∷ []) ≡ accepted (join true (goal 1) (one (goal 2))))  -- ((1)),2
     × (read 32 (50 ∷ 38 ∷ 49 ∷ []) ≡ accepted (join false (goal 2) (one (goal 1))))  -- 2&1
     × (read 32 (49 ∷ 44 ∷ 44 ∷ 50 ∷ []) ≡ refused 2)  -- 1,,2
@@ -24,8 +24,8 @@ drafts
     × (read 32 (40 ∷ 49 ∷ 38 ∷ 50 ∷ 44 ∷ 51 ∷ 41 ∷ 38 ∷ 52 ∷ []) ≡ accepted (join false (join true (join false (goal 1) (one (goal 2))) (one (goal 3))) (one (goal 4))))  -- (1&2,3)&4
     × (read 32 (replicate 32 40 ++ (49 ∷ replicate 32 41)) ≡ accepted (goal 1))
     × (read 32 (replicate 33 40 ++ (49 ∷ replicate 33 41)) ≡ refused 32)
-    × (checked 2 pair (40 ∷ 40 ∷ 49 ∷ 41 ∷ 41 ∷ 44 ∷ 50 ∷ []) ≡ same)  -- ((1)),2
-    × (checked 2 pair (50 ∷ 38 ∷ 49 ∷ []) ≡ differs 1 2)  -- 2&1
+    × (checked 2 pair (40 ∷ 40 ∷ 49 ∷ 41 ∷ 41 ∷ 44 ∷ 50 ∷ []) ≡ answer same)  -- ((1)),2
+    × (checked 2 pair (50 ∷ 38 ∷ 49 ∷ []) ≡ answer (differs 1 2))  -- 2&1
     × (checked 2 pair (49 ∷ 44 ∷ 44 ∷ 50 ∷ []) ≡ refusal 16 2)  -- 1,,2
     × (checked 2 pair (48 ∷ 49 ∷ []) ≡ refusal 16 0)  -- 01
     × (checked 2 pair (49 ∷ 44 ∷ 49 ∷ []) ≡ refusal 17 2)  -- 1,1
@@ -34,4 +34,5 @@ drafts
     × (checked 2 pair [] ≡ refusal 15 0)
     × (checked 2 pair (replicate 513 49) ≡ refusal 15 0)
     × (checked 2 pair (replicate 512 49) ≡ refusal 16 2)
+unfolding readText firstDiffer checked
 drafts = (refl, refl, refl, refl, refl, refl, refl, refl, refl, refl, refl, refl, refl, refl, refl, refl, refl, refl, refl)

@@ -1,5 +1,4 @@
--- The texts of expressions: a sequence is groups joined by `,`; a group is primaries joined by `&`; a primary is a number, or a sequence in parentheses.
--- Assumes nothing.
+-- "Text accepted by the check": the grammar, as the paper words it. No reader is in it; `proofs/Theorems.antt` says which texts the reader takes.
 use mathlib.Core.Path.{_≡_}
 use mathlib.Core.Bool.{Bool, true, false}
 use mathlib.Core.Logic.{_⊎_}
@@ -9,16 +8,17 @@ use lib.ListN.{length, take}
 use Rattle.expression.specs.Expr.{Expr, goal, join, Members, one, more}
 use Rattle.expression.specs.Text.{mark}
 
--- A number: a digit 1 to 9, then at most one further digit. (48 is `0`.)
+-- "A number is a digit 1 to 9, then at most one further digit." (48 is `0`.)
 pub data Number : List ℕ → ℕ → Type 0 where
   single : (v : ℕ) → 1 ≤ v → v < 10 → Number ((48 + v) ∷ []) v
   double : (v w : ℕ) → 1 ≤ v → v < 10 → w < 10 → Number ((48 + v) ∷ (48 + w) ∷ []) (10 * v + w)
 
--- `Joined k d t e`: t, in which at most d parentheses are open at a time, is a text of e: for k = true as a sequence (groups joined by `,`), for k = false as a group (primaries joined by `&`).
--- `Member true`: a group, as a member of a sequence. `Member false`: a primary, as a member of a group.
+-- "A sequence is groups joined by `,`; a group is primaries joined by `&`; a primary is a number, or a sequence in parentheses. Spare parentheses
+-- are allowed." `Joined k d t e`: t, in which at most d parentheses are open at a time, is a text of e: for k = true a sequence, for k = false a group.
+-- `Member true` is a group, as a member of a sequence; `Member false` is a primary, as a member of a group. `mark true` is `,`, `mark false` is `&`.
 mutual
   pub data Joined : Bool → ℕ → List ℕ → Expr → Type 0 where
-    -- one member alone is the member itself
+    -- one member alone is that member
     alone : {k : Bool} {d : ℕ} {t : List ℕ} {e : Expr} → Member k d t e → Joined k d t e
     -- two or more make a join
     several : {k : Bool} {d : ℕ} {t u w : List ℕ} {e : Expr} {ms : Members} → Member k d u e → Others k d w ms → t ≡ u ++ (mark k ∷ w) → Joined k d t (join k e ms)
@@ -33,7 +33,7 @@ mutual
     -- `(` and `)`
     parens : {d : ℕ} {t u : List ℕ} {e : Expr} → Joined true d u e → t ≡ 40 ∷ (u ++ (41 ∷ [])) → Member false (suc d) t e
 
--- t is a text of e with at most d parentheses open at a time.
+-- t is a text of e. "At most 32 parentheses may be open at a time": d is 32 for the check.
 abbrev pub Text : ℕ → List ℕ → Expr → Type 0
 Text d t e = Joined true d t e
 
@@ -41,11 +41,12 @@ Text d t e = Joined true d t e
 abbrev pub Grammatical : ℕ → List ℕ → Type 0
 Grammatical d t = (e : Expr) × Text d t e
 
--- Some text of the grammar begins with p.
+-- Some text of the grammar, of any length, begins with p.
 abbrev pub Begins : ℕ → List ℕ → Type 0
 Begins d p = (q : List ℕ) × Grammatical d (p ++ q)
 
--- t is not in the grammar, and k is the first byte with which no text of the grammar goes on, or the length of t if it stops early.
+-- The place k of refusal 16: t is "not in the grammar", and k is "the first byte with which no text of the grammar, of any length, goes on, or the
+-- text's length if it stops early".
 pub record BadAt (d : ℕ) (t : List ℕ) (k : ℕ) : Type 0 where
   pub begins : Begins d (take k t)
   pub stops : ((k ≡ length t) × (Grammatical d t → ⊥)) ⊎ ((k < length t) × (Begins d (take (suc k) t) → ⊥))

@@ -1,5 +1,5 @@
--- The numbers of a text from left to right with their places, and what is wrong with them for n goals.
--- Assumes nothing.
+-- The numbers of a text from left to right with their places, and refusal 17: "the leftmost number above n or met before (its first byte), else a goal
+-- missing (the text's length)".
 use mathlib.Core.Bool.{Bool, true, false, _||_, cond}
 use mathlib.Core.List.{List, [], _∷_, _++_}
 use mathlib.Core.Option.{Option, none, some}
@@ -56,11 +56,11 @@ abbrev pub missing : ℕ → Expr → Bool
 missing zero e = false
 missing (suc n) e = eqb (times e (suc n)) 0 || missing n e
 
--- The place of refusal 17 for the text t of e: the leftmost number above n or met before, else the text's length if a goal is missing.
 abbrev pub orElse : Option ℕ → Option ℕ → Option ℕ
 orElse (some p) r = some p
 orElse none r = r
 
+-- The place of refusal 17 for the text t of e.
 abbrev pub misuse : ℕ → List ℕ → Expr → Option ℕ
 misuse n t e = orElse (fault n [] (numbers t)) (cond (missing n e) (some (length t)) none)
 

@@ -1,5 +1,5 @@
--- The reader: one byte at a time, structural on the text.
--- Assumes nothing.
+-- A reader that computes: one byte at a time, with the levels of parentheses that are open. `proofs/Theorems.antt` ties it to the grammar: it accepts
+-- exactly the grammar's texts, each with its expression, and refuses at exactly the paper's place.
 use mathlib.Core.Bool.{Bool, true, false, _&&_, cond}
 use mathlib.Core.List.{List, [], _∷_}
 use mathlib.Core.Option.{Option, none, some}

@@ -29,7 +29,7 @@ pub enum Part {
 }
 
 // The byte at a place, or 0 past the end.
-fn peek(text: &[u8], at: usize) -> u8
+pub fn peek(text: &[u8], at: usize) -> u8
     ensures { λ r. ⌜ r ≡ getD (now (text .entry)) at 0 ⌝ }
 {
     if at < text.len() { text[at] } else { 0 }

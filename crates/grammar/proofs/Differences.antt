@@ -1,0 +1,69 @@
+-- What the comparison of two orders says.
+--     same-order           there is no first difference exactly if the orders agree on the goals 1 to n
+--     first-difference     the first difference in words
+use mathlib.Core.Path.{_≡_, refl, sym, ap, _∙_, subst}
+use mathlib.Core.Bool.{Bool, true, false, cond, Bool·beq, true≢false}
+use mathlib.Core.Option.{Option, none, some}
+use mathlib.Core.Logic.{⊎-elim, _↔_}
+use Prim.Native.Nat.{ℕ, zero, suc, _+_, _≤_, _<_}
+use native.Mathlib.Omega.{arith}
+use Rattle.expression.specs.Expr.{Goals}
+use Rattle.expression.specs.Search.{firstIn}
+use Rattle.expression.proofs.Bools.{test, beq-true}
+use Rattle.expression.proofs.Search.{first-none, first-some}
+use Rattle.grammar.specs.Check.{differ, firstDiffer}
+
+beq-refl : (a b : Bool) → a ≡ b → Bool·beq a b ≡ true
+beq-refl true b e = rw (sym e)
+beq-refl false b e = rw (sym e)
+
+-- ---- two orders that do not differ
+none-in : {A : Type 0} (f : ℕ → Option A) (c a : ℕ) → ((i : ℕ) → a ≤ i → i < a + c → f i ≡ none) → firstIn f a c ≡ none
+none-in f zero a h = refl
+none-in f (suc c) a h = rw (h a (omega arith) (omega arith)) (none-in f c (suc a) (λ i lo hi. h i (omega arith) (omega arith)))
+
+differ-none : (R S : ℕ → ℕ → Bool) (i j : ℕ) → differ R S i j ≡ none → R i j ≡ S i j
+differ-none R S i j h = ⊎-elim (λ t. beq-true (R i j) (S i j) t) (λ t. absurd (some-not (sym (ap (λ b. cond b none (some (i, j))) t) ∙ h))) (test (Bool·beq (R i j) (S i j)))
+  where
+    some-not : _≡_ {A = Option (ℕ × ℕ)} (some (i, j)) none → ⊥
+    some-not e = let z : _≡_ {A = ℕ} 0 1 = cc in omega arith
+
+pub same-order : (n : ℕ) (R S : ℕ → ℕ → Bool) → (firstDiffer n R S ≡ none) ↔ ((i j : ℕ) → Goals n i → Goals n j → S i j ≡ R i j)
+unfolding firstDiffer
+same-order n R S = (
+  λ h i j gi gj. sym (differ-none R S i j (first-none (λ j. differ R S i j) n 1 (first-none (λ i. firstIn (λ j. differ R S i j) 1 n) n 1 h i (gi .0) (omega arith)) j (gj .0) (omega arith))),
+  λ h. none-in (λ i. firstIn (λ j. differ R S i j) 1 n) n 1 (λ i lo hi. none-in (λ j. differ R S i j) n 1 (λ j lo′ hi′.
+      ap (λ b. cond b none (some (i, j))) (beq-refl (R i j) (S i j) (sym (h i j (lo, omega arith) (lo′, omega arith)))))),
+)
+
+pub record FirstDifference (n : ℕ) (R S : ℕ → ℕ → Bool) (i j : ℕ) : Type 0 where
+  pub in-i : Goals n i
+  pub in-j : Goals n j
+  pub here : R i j ≡ S i j → ⊥
+  pub rows-before : (p q : ℕ) → 1 ≤ p → p < i → Goals n q → R p q ≡ S p q
+  pub before-in-row : (q : ℕ) → 1 ≤ q → q < j → R i q ≡ S i q
+
+differ-some : (R S : ℕ → ℕ → Bool) (a b i j : ℕ) → differ R S a b ≡ some (i, j) → (a ≡ i) × (b ≡ j) × (R a b ≡ S a b → ⊥)
+differ-some R S a b i j h = go (Bool·beq (R a b) (S a b)) refl h
+  where
+    go : (c : Bool) → Bool·beq (R a b) (S a b) ≡ c → cond {A = Option (ℕ × ℕ)} c none (some (a, b)) ≡ some (i, j) → (a ≡ i) × (b ≡ j) × (R a b ≡ S a b → ⊥)
+    go true t k = let z : _≡_ {A = ℕ} 0 1 = cc in absurd (omega arith)
+    go false t k =
+        let pair : _≡_ {A = ℕ × ℕ} (a, b) (i, j) = cc in
+        (ap (λ z. z .0) pair, ap (λ z. z .1) pair, λ e. absurd (true≢false (sym (beq-refl (R a b) (S a b) e) ∙ t)))
+
+pub first-difference : (n : ℕ) (R S : ℕ → ℕ → Bool) (i j : ℕ) → firstDiffer n R S ≡ some (i, j) → FirstDifference n R S i j
+unfolding firstDiffer
+first-difference n R S i j h =
+    let o = first-some (λ i. firstIn (λ j. differ R S i j) 1 n) n 1 h in
+    let u = first-some (λ b. differ R S (o .0) b) n 1 (o .3) in
+    let d = differ-some R S (o .0) (u .0) i j (u .3) in
+    let ei = d .0 in
+    let ej = d .1 in
+    record {
+      in-i = (omega (arith, o .1), omega (arith, o .2));
+      in-j = (omega (arith, u .1), omega (arith, u .2));
+      here = λ e. d .2 (subst (λ z. R z (u .0) ≡ S z (u .0)) (sym ei) (subst (λ z. R i z ≡ S i z) (sym ej) e));
+      rows-before = λ p q lo lt g. differ-none R S p q (first-none (λ b. differ R S p b) n 1 (o .4 p lo (omega arith)) q (g .0) (omega (arith, g .1)));
+      before-in-row = λ q lo lt. subst (λ z. R z q ≡ S z q) ei (differ-none R S (o .0) q (u .4 q lo (omega arith)));
+    }
