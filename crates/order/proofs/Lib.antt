@@ -1,0 +1,3 @@
+pub mod Waits
+pub mod Record
+pub mod Theorems

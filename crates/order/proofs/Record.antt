@@ -1,0 +1,65 @@
+-- The waits by arrays are those of the record, where the arrays hold its goals' variable sets and its listed pairs.
+use mathlib.Core.Path.{_≡_, refl, sym, ap, ap₂, _∙_}
+use mathlib.Core.Bool.{Bool, not, _&&_}
+use mathlib.Core.List.{List}
+use Prim.Native.Nat.{ℕ, suc, compare·suc-suc, _≤_, _<_}
+use native.Mathlib.Omega.{arith}
+use lib.Dec.{ltb, isLe}
+use lib.ListN.{getD}
+use Rattle.sets.specs.Sets.{has, setOf}
+use Rattle.sets.proofs.Builder.{setOf-lt, setOf-ext, has-setOf-in}
+use Rattle.arrays.specs.Table.{table}
+use Rattle.arrays.proofs.Table.{table-at, table-cong}
+use Rattle.graph.specs.Graph.{goalsOf, rowsOf}
+use Rattle.graph.specs.declared.Graph.{Graph}
+use Rattle.judge.specs.Independence.{independent}
+use Rattle.judge.specs.ByRows.{waitsBy}
+use Rattle.judge.proofs.Listed.{waits-listed}
+use Rattle.record.specs.Fields.{goalCount, groundSet, goalSet, listed}
+use Rattle.order.specs.Order.{groundAt, freeAt, waits}
+use Rattle.order.specs.Arrays.{waitsAt, waitRow, waitRows, waiting}
+
+ltb-suc : (i j : ℕ) → ltb i j ≡ ltb (suc i) (suc j)
+ltb-suc i j = sym (ap isLe (compare·suc-suc (suc i) j))
+
+setOf-cong : (w : ℕ) (f g : ℕ → Bool) → ((i : ℕ) → i < w → f i ≡ g i) → setOf w f ≡ setOf w g
+setOf-cong w f g h = setOf-ext w (setOf w f) g (setOf-lt w f) (λ i l. has-setOf-in w f i l ∙ h i l)
+
+module _ (b : List ℕ) where
+  -- the goals' variable sets
+  goals : List ℕ
+  goals = table 32 (goalCount b) (λ i. goalSet b (suc i))
+
+  -- the listed pairs
+  pairs : List ℕ
+  pairs = table 64 64 (λ x. setOf 64 (listed b x))
+
+  pair-at : (x y : ℕ) → x < 64 → y < 64 → has (getD pairs x 0) y ≡ listed b x y
+  unfolding pairs
+  pair-at x y lx ly =
+      ap (λ (m : ℕ). has m y) (table-at 64 64 (λ k. setOf 64 (listed b k)) x lx lx) ∙ has-setOf-in 64 (listed b x) y ly
+
+  module _ (h : goalCount b ≤ 32) where
+    goal-at : (i : ℕ) → i < goalCount b → getD goals i 0 ≡ goalSet b (suc i)
+    unfolding goals
+    goal-at i l = table-at 32 (goalCount b) (λ k. goalSet b (suc k)) i (omega arith) l
+
+    waits-at : (i j : ℕ) → i < goalCount b → j < goalCount b
+        → waitsAt (groundAt b (suc i)) (freeAt b (suc i)) goals pairs i j ≡ waits b (suc i) (suc j)
+    unfolding waits
+    waits-at i j li lj =
+        ap₂ _&&_ (ltb-suc i j)
+        (ap₂ (λ (x : ℕ) (y : ℕ). waitsBy (groundAt b (suc i)) (freeAt b (suc i)) pairs 64 x y) (goal-at i li) (goal-at j lj)
+        ∙ waits-listed (groundAt b (suc i)) (freeAt b (suc i)) pairs (listed b) 64 (goalSet b (suc i)) (goalSet b (suc j)) pair-at)
+
+    row-is : (i : ℕ) → i < goalCount b
+        → waitRow (groundAt b (suc i)) (freeAt b (suc i)) goals pairs (goalCount b) i ≡ goalsOf (goalCount b) (waits b (suc i))
+    unfolding waitRow goalsOf
+    row-is i l = setOf-cong (goalCount b) _ (λ j. waits b (suc i) (suc j)) (λ j k. waits-at i j l k)
+
+    pub rows-is : waitRows (goalCount b) (groundSet b) (table 32 (goalCount b) (λ i. goalSet b (suc i))) (table 64 64 (λ x. setOf 64 (listed b x)))
+        ≡ waiting b
+    unfolding waitRows waiting rowsOf goals pairs
+    rows-is =
+        ap (λ (l : List ℕ). record { n = goalCount b; rows = l })
+        (table-cong 32 (goalCount b) _ (λ i. goalsOf (goalCount b) (waits b (suc i))) (λ i l. row-is i l))
