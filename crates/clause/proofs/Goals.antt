@@ -6,8 +6,8 @@ use native.Mathlib.Omega.{arith}
 use lib.ListN.{set, replicate}
 use Rattle.arrays.specs.Table.{table}
 use Rattle.arrays.proofs.Table.{table-zero, table-more}
-use Rattle.record.specs.Fields as F
-use Rattle.record.specs.Fields.{goalCount, headSet, groundSet, goalSet, placeAfter}
+use Rattle.fields.specs.Fields as F
+use Rattle.fields.specs.Fields.{goalCount, headSet, groundSet, goalSet, placeAfter}
 use Rattle.clause.specs.declared.Clause.{Clause}
 use Rattle.clause.specs.Clause.{goalSets, pairRows, clause}
 

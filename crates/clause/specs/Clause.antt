@@ -4,7 +4,7 @@ use mathlib.Core.List.{List}
 use Prim.Native.Nat.{ℕ, suc}
 use Rattle.arrays.specs.Table.{table}
 use Rattle.sets.specs.Sets.{setOf}
-use Rattle.record.specs.Fields.{goalCount, headSet, groundSet, goalSet, listed}
+use Rattle.fields.specs.Fields.{goalCount, headSet, groundSet, goalSet, listed}
 use Rattle.clause.specs.declared.Clause.{Clause}
 
 -- the variable sets of the goals, goal g at g - 1

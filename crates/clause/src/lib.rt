@@ -1,7 +1,7 @@
 // The facts of a clause, by value.
 ghost use mathlib.Core.Path.{_≡_};
 ghost use Prim.Native.Nat.{_<_, _≤_, _^_};
-ghost use Rattle.record.specs.Fields as F;
+ghost use Rattle.fields.specs.Fields as F;
 ghost use Rattle.clause.specs.Clause as C;
 
 pub struct Clause {
@@ -29,13 +29,13 @@ fn pair_rows(b: &[u8], from: usize) -> Rows
     requires { ⌜ (from < 2 ^ 32) × (from ≡ F.pairsPlace (now b)) ⌝ }
     ensures { λ r. ⌜ r .row ≡ C.pairRows (now (b .entry)) ⌝ }
 {
-    let p = size_of(record::byte(b, 7));
+    let p = size_of(fields::byte(b, 7));
     let mut row = [0u64; 64];
     let mut k: usize = 0;
     while k < p {
         let at = from + 2 * k;
-        let i = size_of(record::byte(b, at));
-        let j = size_of(record::byte(b, at + 1));
+        let i = size_of(fields::byte(b, at));
+        let j = size_of(fields::byte(b, at + 1));
         if (i < 64) & (j < 64) {
             row[i] = row[i] | (1u64 << j);
             row[j] = row[j] | (1u64 << i);
@@ -50,15 +50,15 @@ pub fn decode(b: &[u8]) -> Clause
     requires { ⌜ F.goalCount (now b) ≤ 32 ⌝ }
     ensures { λ r. ⌜ r ≡ C.clause (now (b .entry)) ⌝ }
 {
-    let n = size_of(record::byte(b, 5));
-    let head = record::set_at(b, 8);
-    let ground = record::set_at(b, 16);
+    let n = size_of(fields::byte(b, 5));
+    let head = fields::set_at(b, 8);
+    let ground = fields::set_at(b, 16);
     let mut sets = [0u64; 32];
     let mut at: usize = 24;
     let mut g: usize = 0;
     while g < n {
-        sets[g] = record::set_at(b, at);
-        at = at + 9 + size_of(record::byte(b, at + 8));
+        sets[g] = fields::set_at(b, at);
+        at = at + 9 + size_of(fields::byte(b, at + 8));
         g += 1;
     }
     let pairs = pair_rows(b, at);

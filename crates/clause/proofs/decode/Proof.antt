@@ -4,17 +4,11 @@ use native.Mathlib.Omega.{arith}
 use borrow.Author.Needs.{needs}
 use denote.Ref.{now}
 use lib.ListN.{length, getD}
-use Rattle.record.specs.Fields as F
-use Rattle.record.proofs.Turns.{place-zero, place-turn}
+use Rattle.fields.specs.Fields as F
+use Rattle.fields.proofs.Places.{place-zero, place-turn}
 use Rattle.clause.proofs.Goals.{setsAfter, sets-zero, sets-more, sets-all, made}
 use Rattle.clause.proofs.decode.Statement.{statement}
 use Rattle.clause.proofs.decode.Tie as tie
-use Rattle.clause.proofs.decode.Reads as reads
-use Rattle.clause.proofs.decode.Lts as lts
-use Rattle.clause.proofs.pair_rows.Reads as pair-rows-reads
-use Rattle.clause.proofs.size_of.Reads as size-of-reads
-use Rattle.record.proofs.byte.Reads as byte-reads
-use Rattle.record.proofs.set_at.Reads as set-at-reads
 
 abbrev Inv-loop : tie.InvT-loop
 Inv-loop b n head ground sets₀ at₀ g₀ sets at g = (g ≤ n) × (n ≤ 32) × (sets ≡ setsAfter b g) × (at ≡ F.placeAfter b g) × (at ≤ 24 + 264 * g)
@@ -22,67 +16,51 @@ Inv-loop b n head ground sets₀ at₀ g₀ sets at g = (g ≤ n) × (n ≤ 32) 
 abbrev μ-loop : tie.MeasureT-loop
 μ-loop b n head ground sets₀ at₀ g₀ sets at g = n - g
 
--- src/lib.rt:53:21
 byte-requires : tie.Need-byte-requires Inv-loop μ-loop
 byte-requires c κs = search needs
 
--- src/lib.rt:53:9
 size-of-requires : tie.Need-size-of-requires Inv-loop μ-loop
 size-of-requires c κs = search needs
 
--- src/lib.rt:54:9
 set-at-requires : tie.Need-set-at-requires Inv-loop μ-loop
 set-at-requires c κs = omega arith
 
--- src/lib.rt:55:9
 set-at-requires-2 : tie.Need-set-at-requires-2 Inv-loop μ-loop
 set-at-requires-2 c κs = omega arith
 
--- src/lib.rt:59:5
 loop-holds : tie.Need-loop-holds Inv-loop μ-loop
 loop-holds c = (omega arith, omega (arith, c .before .before .size-of .ensures .0, c .before .before .before .byte .ensures, c .before .before .before .before .before .pre), sets-zero _, place-zero _, omega arith)
 
--- src/lib.rt:60:19
 set-at-requires-3 : tie.Need-set-at-requires-3 Inv-loop μ-loop
 set-at-requires-3 c κs = omega arith
 
--- src/lib.rt:60:9
 mul-sets : tie.Need-mul-sets Inv-loop μ-loop
 mul-sets c = omega arith
 
--- src/lib.rt:60:9
 array-write-sets : tie.Need-array-write-sets Inv-loop μ-loop
 array-write-sets c = omega arith
 
--- src/lib.rt:61:14
 add-at : tie.Need-add-at Inv-loop μ-loop
 add-at c = omega arith
 
--- src/lib.rt:61:47
 add-byte : tie.Need-add-byte Inv-loop μ-loop
 add-byte c = omega arith
 
--- src/lib.rt:61:31
 byte-requires-2 : tie.Need-byte-requires-2 Inv-loop μ-loop
 byte-requires-2 c κs = search needs
 
--- src/lib.rt:61:23
 size-of-requires-2 : tie.Need-size-of-requires-2 Inv-loop μ-loop
 size-of-requires-2 c κs = search needs
 
--- src/lib.rt:61:14
 add-at-2 : tie.Need-add-at-2 Inv-loop μ-loop
 add-at-2 c = omega arith
 
--- src/lib.rt:62:9
 add-g : tie.Need-add-g Inv-loop μ-loop
 add-g c = omega arith
 
--- src/lib.rt:59:5
 loop-less : tie.Need-loop-less Inv-loop μ-loop
 loop-less c = omega arith
 
--- src/lib.rt:59:5
 loop-again : tie.Need-loop-again Inv-loop μ-loop
 loop-again c = let l = c .before .before .before .before .loop in
     let b = now (c .before .before .before .before .before .before .before .before .before .before .args .b) in
@@ -94,14 +72,12 @@ loop-again c = let l = c .before .before .before .before .loop in
       omega arith,
     )
 
--- src/lib.rt:64:9
 pair-rows-requires : tie.Need-pair-rows-requires Inv-loop μ-loop
 pair-rows-requires c κs = let l = c .before .loop in
     let b = now (c .before .before .before .before .before .before .before .args .b) in
     let n : l .g ≡ F.goalCount b = let e : l .g ≡ c .before .before .before .before .size-of .result = omega arith in e ∙ c .before .before .before .before .size-of .ensures .0 ∙ c .before .before .before .before .before .byte .ensures in
     (omega arith, l .inv .3 ∙ ap (F.placeAfter b) n)
 
--- src/lib.rt:49:1
 returns : tie.Need-returns Inv-loop μ-loop
 returns c = let l = c .before .before .before .loop in
     let b = now (c .before .before .before .before .before .before .before .before .before .args .b) in

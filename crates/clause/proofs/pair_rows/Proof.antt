@@ -5,7 +5,7 @@ use borrow.Author.Needs.{needs}
 use denote.Ref.{now}
 use lib.Dec.{ltb}
 use lib.ListN.{length, getD}
-use Rattle.record.specs.Fields as F
+use Rattle.fields.specs.Fields as F
 use mathlib.Core.Logic.{⊎-elim}
 use borrow.Author.Tests.{ltb-true}
 use Rattle.logic.proofs.Bools.{and-l, and-r}
@@ -13,10 +13,6 @@ use Rattle.clause.specs.Clause as C
 use Rattle.clause.proofs.Pairs.{rowsAfter, rows-zero, rows-turn, rows-same, rows-all}
 use Rattle.clause.proofs.pair_rows.Statement.{statement}
 use Rattle.clause.proofs.pair_rows.Tie as tie
-use Rattle.clause.proofs.pair_rows.Reads as reads
-use Rattle.clause.proofs.pair_rows.Lts as lts
-use Rattle.clause.proofs.size_of.Reads as size-of-reads
-use Rattle.record.proofs.byte.Reads as byte-reads
 
 abbrev Inv-loop : tie.InvT-loop
 Inv-loop b from p row₀ k₀ row k = (k ≤ p) × (row ≡ rowsAfter b k)
@@ -27,95 +23,72 @@ abbrev μ-loop : tie.MeasureT-loop
 both : (c : tie.Then1 Inv-loop μ-loop) → (c .before .before .before .size-of2 .result < 64) × (c .before .size-of3 .result < 64)
 both c = (ltb-true _ 64 (and-l _ _ (c .if1 .taken)), ltb-true _ 64 (and-r (ltb (c .before .before .before .size-of2 .result) 64) _ (c .if1 .taken)))
 
--- src/lib.rt:32:21
 byte-requires : tie.Need-byte-requires Inv-loop μ-loop
 byte-requires c κs = search needs
 
--- src/lib.rt:32:9
 size-of-requires : tie.Need-size-of-requires Inv-loop μ-loop
 size-of-requires c κs = search needs
 
--- src/lib.rt:35:5
 loop-holds : tie.Need-loop-holds Inv-loop μ-loop
 loop-holds c = (omega arith, rows-zero _)
 
--- src/lib.rt:36:25
 mul-at : tie.Need-mul-at Inv-loop μ-loop
 mul-at c = omega arith
 
--- src/lib.rt:36:18
 add-at : tie.Need-add-at Inv-loop μ-loop
 add-at c = omega arith
 
--- src/lib.rt:37:25
 byte-requires-2 : tie.Need-byte-requires-2 Inv-loop μ-loop
 byte-requires-2 c κs = search needs
 
--- src/lib.rt:37:13
 size-of-requires-2 : tie.Need-size-of-requires-2 Inv-loop μ-loop
 size-of-requires-2 c κs = search needs
 
--- src/lib.rt:38:41
 add-byte : tie.Need-add-byte Inv-loop μ-loop
 add-byte c = omega arith
 
--- src/lib.rt:38:25
 byte-requires-3 : tie.Need-byte-requires-3 Inv-loop μ-loop
 byte-requires-3 c κs = search needs
 
--- src/lib.rt:38:13
 size-of-requires-3 : tie.Need-size-of-requires-3 Inv-loop μ-loop
 size-of-requires-3 c κs = search needs
 
--- src/lib.rt:40:22
 mul-row : tie.Need-mul-row Inv-loop μ-loop
 mul-row c = omega arith
 
--- src/lib.rt:40:22
 array-read-row : tie.Need-array-read-row Inv-loop μ-loop
 array-read-row c = both c .0
 
--- src/lib.rt:40:32
 shl-row : tie.Need-shl-row Inv-loop μ-loop
 shl-row c = both c .1
 
--- src/lib.rt:40:13
 mul-row-2 : tie.Need-mul-row-2 Inv-loop μ-loop
 mul-row-2 c = omega arith
 
--- src/lib.rt:40:13
 array-write-row : tie.Need-array-write-row Inv-loop μ-loop
 array-write-row c = both c .0
 
--- src/lib.rt:41:22
 mul-row-3 : tie.Need-mul-row-3 Inv-loop μ-loop
 mul-row-3 c = omega arith
 
--- src/lib.rt:41:22
 array-read-row-2 : tie.Need-array-read-row-2 Inv-loop μ-loop
 array-read-row-2 c = both c .1
 
--- src/lib.rt:41:32
 shl-row-2 : tie.Need-shl-row-2 Inv-loop μ-loop
 shl-row-2 c = both c .0
 
--- src/lib.rt:41:13
 mul-row-4 : tie.Need-mul-row-4 Inv-loop μ-loop
 mul-row-4 c = omega arith
 
--- src/lib.rt:41:13
 array-write-row-2 : tie.Need-array-write-row-2 Inv-loop μ-loop
 array-write-row-2 c = both c .1
 
--- src/lib.rt:43:9
 add-k : tie.Need-add-k Inv-loop μ-loop
 add-k c = omega arith
 
--- src/lib.rt:35:5
 loop-less : tie.Need-loop-less Inv-loop μ-loop
 loop-less c = omega arith
 
--- src/lib.rt:35:5
 loop-again : tie.Need-loop-again Inv-loop μ-loop
 loop-again c = let l = c .before .before .before .before .before .before .loop in
     let a = c .before .before .before .before .before .before .before .before .before .before .args in
@@ -131,7 +104,6 @@ loop-again c = let l = c .before .before .before .before .before .before .loop i
           (λ w. w .1 ∙ rows-same b (l .k) _ _ (l .row) (w .0 .left) i j (l .inv .1)) (c .if1 .came),
     )
 
--- src/lib.rt:28:1
 returns : tie.Need-returns Inv-loop μ-loop
 returns c = let l = c .before .loop in
     let b = now (c .before .before .before .before .before .args .b) in

@@ -1,0 +1,69 @@
+use Prim.Native.Nat.{ℕ, _≤_, _<_, _*_, _+_, _-_, _^_, _%_}
+use mathlib.Core.Path.{_≡_, refl, ap, _∙_, sym, subst}
+use native.Mathlib.Omega.{arith}
+use borrow.Author.Needs.{needs}
+use denote.Ref.{now}
+use lib.ListN.{length, getD}
+use Rattle.fields.specs.Fields as F
+use Rattle.fields.proofs.Places.{place-zero, place-turn}
+use Rattle.fields.proofs.place_after.Statement.{statement}
+use Rattle.fields.proofs.place_after.Tie as tie
+
+abbrev Inv-loop : tie.InvT-loop
+Inv-loop b g at₀ i₀ at i = (i ≤ g) × (at ≡ F.placeAfter b i) × (at ≤ 24 + 264 * i)
+
+abbrev μ-loop : tie.MeasureT-loop
+μ-loop b g at₀ i₀ at i = g - i
+
+loop-holds : tie.Need-loop-holds Inv-loop μ-loop
+loop-holds c = (omega arith, place-zero _, omega arith)
+
+add-at : tie.Need-add-at Inv-loop μ-loop
+add-at c = omega arith
+
+add-byte : tie.Need-add-byte Inv-loop μ-loop
+add-byte c = omega arith
+
+byte-requires : tie.Need-byte-requires Inv-loop μ-loop
+byte-requires c κs = search needs
+
+size-of-requires : tie.Need-size-of-requires Inv-loop μ-loop
+size-of-requires c κs = search needs
+
+add-at-2 : tie.Need-add-at-2 Inv-loop μ-loop
+add-at-2 c = omega arith
+
+add-i : tie.Need-add-i Inv-loop μ-loop
+add-i c = omega arith
+
+loop-less : tie.Need-loop-less Inv-loop μ-loop
+loop-less c = omega arith
+
+loop-again : tie.Need-loop-again Inv-loop μ-loop
+loop-again c = let l = c .before .before .before .loop in
+    let b = now (c .before .before .before .before .before .args .b) in
+    let k = c .size-of .ensures .0 ∙ c .before .byte .ensures in
+    (omega arith, ap (λ (x : ℕ). l .at + 9 + x) k ∙ place-turn b (l .i) (l .at) (l .inv .1), omega arith)
+
+returns : tie.Need-returns Inv-loop μ-loop
+returns c = let l = c .before .loop in
+    let a = c .before .before .before .args in
+    let e : l .i ≡ a .g = omega arith in
+    (l .inv .1 ∙ ap (F.placeAfter (now (a .b))) e, omega arith)
+
+pub place-after-spec : {M : Type 1} → statement M
+place-after-spec =
+    tie.close
+    (tie.spec
+    Inv-loop
+    μ-loop
+    loop-holds
+    add-at
+    add-byte
+    byte-requires
+    size-of-requires
+    add-at-2
+    add-i
+    loop-less
+    loop-again
+    returns)

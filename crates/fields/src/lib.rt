@@ -1,0 +1,102 @@
+// The fields of a clause record. Every read is total: a byte past the end is 0.
+ghost use mathlib.Core.Path.{_≡_};
+ghost use Prim.Native.Nat.{_+_, _*_, _<_, _≤_, _^_};
+ghost use lib.ListN.{length};
+ghost use Rattle.fields.specs.Fields as F;
+
+// The byte at `at`, or 0 past the end.
+pub fn byte(b: &[u8], at: usize) -> u8
+    ensures { λ r. ⌜ r ≡ F.byte (now (b .entry)) at ⌝ }
+{
+    if at < b.len() { b[at] } else { 0 }
+}
+
+fn wide(x: u8) -> u64
+    ensures { λ r. ⌜ r ≡ x ⌝ }
+    ensures { λ r. ⌜ r < 256 ⌝ }
+{
+    x as u64
+}
+
+pub fn small(x: u8) -> u32
+    ensures { λ r. ⌜ r ≡ x ⌝ }
+    ensures { λ r. ⌜ r < 256 ⌝ }
+{
+    x as u32
+}
+
+pub fn size_of(x: u8) -> usize
+    ensures { λ r. ⌜ r ≡ x ⌝ }
+    ensures { λ r. ⌜ r < 256 ⌝ }
+{
+    x as usize
+}
+
+// The number of the k bytes from `at` on, the most significant first.
+pub fn number(b: &[u8], at: usize, k: usize) -> u64
+    requires { ⌜ (k ≤ 8) × (at + k < 2 ^ 64) ⌝ }
+    ensures { λ r. ⌜ r ≡ F.number (now (b .entry)) at k ⌝ }
+{
+    let mut r: u64 = 0;
+    let mut i: usize = 0;
+    while i < k {
+        r = r * 256 + wide(byte(b, at + i));
+        i += 1;
+    }
+    r
+}
+
+// The same for four bytes that are there.
+fn four(b: &[u8], at: usize) -> u64
+    requires { ⌜ at + 4 ≤ length (now b) ⌝ }
+    ensures { λ r. ⌜ r ≡ F.number (now (b .entry)) at 4 ⌝ }
+    ensures { λ r. ⌜ r < 2 ^ 32 ⌝ }
+{
+    let high = wide(b[at]) * 256 + wide(b[at + 1]);
+    let low = wide(b[at + 2]) * 256 + wide(b[at + 3]);
+    high * 65536 + low
+}
+
+// The variable set at `at`.
+pub fn set_at(b: &[u8], at: usize) -> u64
+    requires { ⌜ at + 8 < 2 ^ 64 ⌝ }
+    ensures { λ r. ⌜ r ≡ F.set (now (b .entry)) at ⌝ }
+{
+    if at + 8 <= b.len() {
+        return four(b, at) * 0x1_0000_0000 + four(b, at + 4);
+    }
+    number(b, at, 8)
+}
+
+// Where the first g goals end.
+pub fn place_after(b: &[u8], g: usize) -> usize
+    requires { ⌜ g < 256 ⌝ }
+    ensures { λ r. ⌜ r ≡ F.placeAfter (now (b .entry)) g ⌝ }
+    ensures { λ r. ⌜ r ≤ 24 + 264 * g ⌝ }
+{
+    let mut at: usize = 24;
+    let mut i: usize = 0;
+    while i < g {
+        at = at + 9 + size_of(byte(b, at + 8));
+        i += 1;
+    }
+    at
+}
+
+// Where the text of goal g starts.
+pub fn text_place(b: &[u8], g: usize) -> usize
+    requires { ⌜ (1 ≤ g) × (g ≤ 32) ⌝ }
+    ensures { λ r. ⌜ r ≡ F.textPlace (now (b .entry)) g ⌝ }
+    ensures { λ r. ⌜ r < 2 ^ 14 ⌝ }
+{
+    place_after(b, g - 1) + 9
+}
+
+// How many bytes the text of goal g has.
+pub fn text_length(b: &[u8], g: usize) -> usize
+    requires { ⌜ (1 ≤ g) × (g ≤ 32) ⌝ }
+    ensures { λ r. ⌜ r ≡ F.textLength (now (b .entry)) g ⌝ }
+    ensures { λ r. ⌜ r < 256 ⌝ }
+{
+    size_of(byte(b, place_after(b, g - 1) + 8))
+}

@@ -1,0 +1,68 @@
+use Prim.Native.Nat.{ℕ, _≤_, _<_, _*_, _+_, _-_, _^_, _%_}
+use mathlib.Core.Path.{_≡_, refl, ap, _∙_, sym, subst}
+use native.Mathlib.Omega.{arith}
+use borrow.Author.Needs.{needs}
+use denote.Ref.{now}
+use lib.ListN.{length, getD}
+use Rattle.fields.specs.Fields as F
+use Rattle.reading.specs.Reading as R
+use Rattle.goals.proofs.goal.Statement.{statement}
+use Rattle.goals.proofs.goal.Tie as tie
+
+add-text : tie.Need-add-text
+add-text c = search needs
+
+first-bad-requires : tie.Need-first-bad-requires
+first-bad-requires c κs = search needs
+
+also-requires : tie.Need-also-requires
+also-requires c κs = search needs
+
+set-at-requires : tie.Need-set-at-requires
+set-at-requires c κs = search needs
+
+within-requires : tie.Need-within-requires
+within-requires c κs = search needs
+
+also-requires-2 : tie.Need-also-requires-2
+also-requires-2 c κs = search needs
+
+add-also : tie.Need-add-also
+add-also c = search needs
+
+also-requires-3 : tie.Need-also-requires-3
+also-requires-3 c κs = search needs
+
+add-also-2 : tie.Need-add-also-2
+add-also-2 c = search needs
+
+also-requires-4 : tie.Need-also-requires-4
+also-requires-4 c κs = search needs
+
+add-also-3 : tie.Need-add-also-3
+add-also-3 c = search needs
+
+also-requires-5 : tie.Need-also-requires-5
+also-requires-5 c κs = search needs
+
+returns : tie.Need-returns
+unfolding R.goal
+returns c = cc
+
+pub goal-spec : {M : Type 1} → statement M
+goal-spec =
+    tie.close
+    (tie.spec
+    add-text
+    first-bad-requires
+    also-requires
+    set-at-requires
+    within-requires
+    also-requires-2
+    add-also
+    also-requires-3
+    add-also-2
+    also-requires-4
+    add-also-3
+    also-requires-5
+    returns)

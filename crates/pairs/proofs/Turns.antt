@@ -1,0 +1,66 @@
+-- One pair after the other, as a loop takes them. Assumes nothing.
+use mathlib.Core.Path.{_≡_, refl, sym, ap, _∙_}
+use mathlib.Core.Bool.{Bool, true, false, _&&_}
+use mathlib.Core.List.{List}
+use Prim.Native.Nat.{ℕ, zero, suc, _+_, _*_, _<_}
+use native.Mathlib.Numerals.{add-one}
+use native.Mathlib.Omega.{arith}
+use lib.Dec.{ltb, leb}
+use lib.ListN.{length}
+use borrow.Author.Tests.{lt-ltb, ltb-true}
+use Rattle.logic.proofs.Bools.{and-l}
+use Rattle.fields.specs.Fields.{byte, number, varCount, pairsPlace, pairAt}
+use Rattle.fields.proofs.Digits.{number-two}
+use Rattle.reading.specs.declared.Reading.{Reading}
+use Rattle.reading.specs.Reading.{_must_else_place_, pair, pairs, ordered, ascends}
+
+module _ (b : List ℕ) where
+  pub pairs-zero : (s : Reading) → s ≡ pairs b 0 s
+  unfolding pairs
+  pairs-zero s = refl
+
+  pub pairs-more : (k : ℕ) (s : Reading) → pairs b (k + 1) s ≡ pair b k (pairs b k s)
+  unfolding pairs
+  pairs-more k s = rw add-one
+
+  -- the number of the pair before pair k, or 0: every pair that is lower then higher is above 0
+  unfoldable pub last : ℕ → ℕ
+  last zero = 0
+  last (suc k) = number b (pairAt b k) 2
+
+  pub last-zero : 0 ≡ last 0
+  unfolding last
+  last-zero = refl
+
+  pub last-more : (k : ℕ) → last (k + 1) ≡ byte b (pairAt b k) * 256 + byte b (pairAt b k + 1)
+  unfolding last
+  last-more k = rw add-one (number-two b (pairAt b k))
+
+  and-true : (p q : Bool) → (p ≡ true → q ≡ true) → p && q ≡ p && true
+  and-true true q h = h refl
+  and-true false q h = refl
+
+  pub in-turn : (k : ℕ)
+      → (ltb (byte b (pairAt b k)) (byte b (pairAt b k + 1)) && ltb (byte b (pairAt b k + 1)) (varCount b))
+      && ltb (last k) (byte b (pairAt b k) * 256 + byte b (pairAt b k + 1))
+      ≡ ordered b (pairAt b k) && ascends b k
+  unfolding ordered ascends last
+  in-turn zero =
+      let low = byte b (pairAt b 0) in
+      let high = byte b (pairAt b 0 + 1) in
+      and-true (ltb low high && ltb high (varCount b)) (ltb 0 (low * 256 + high))
+      (λ e.
+      let l : low < high = ltb-true low high (and-l (ltb low high) (ltb high (varCount b)) e) in
+      lt-ltb 0 (low * 256 + high) (omega arith))
+  in-turn (suc k) =
+      ap (λ (x : ℕ). (ltb (byte b (pairAt b (suc k))) (byte b (pairAt b (suc k) + 1)) && ltb (byte b (pairAt b (suc k) + 1)) (varCount b))
+      && ltb (number b (pairAt b k) 2) x) (sym (number-two b (pairAt b (suc k))))
+
+  -- one turn of the loop over the pairs, as the code makes it
+  pub pair-more : (from v low high before k : ℕ) (s t r r₂ : Reading) → from ≡ pairsPlace b → v ≡ varCount b → low ≡ byte b (from + 2 * k)
+      → high ≡ byte b (from + 2 * k + 1) → before ≡ last k → t ≡ pairs b k s
+      → r ≡ (t must leb (from + 2 * k + 2) (length b) else 7 place length b)
+      → r₂ ≡ (r must (ltb low high && ltb high v) && ltb before (low * 256 + high) else 10 place (from + 2 * k)) → r₂ ≡ pairs b (k + 1) s
+  unfolding pair
+  pair-more from v low high before k s t r r₂ ef ev el eh eb et er e =
+      cc (pairs-more k s, in-turn k)

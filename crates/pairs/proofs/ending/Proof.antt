@@ -1,0 +1,37 @@
+use Prim.Native.Nat.{ℕ, _≤_, _<_, _*_, _+_, _-_, _^_, _%_}
+use mathlib.Core.Path.{_≡_, refl, ap, _∙_, sym, subst}
+use native.Mathlib.Omega.{arith}
+use borrow.Author.Needs.{needs}
+use denote.Ref.{now}
+use lib.ListN.{length, getD}
+use Rattle.fields.specs.Fields as F
+use Rattle.reading.specs.Reading as R
+use Rattle.pairs.proofs.ending.Statement.{statement}
+use Rattle.pairs.proofs.ending.Tie as tie
+
+byte-requires : tie.Need-byte-requires
+byte-requires c κs = search needs
+
+size-of-requires : tie.Need-size-of-requires
+size-of-requires c κs = search needs
+
+mul-end : tie.Need-mul-end
+mul-end c = search needs
+
+add-end : tie.Need-add-end
+add-end c = search needs
+
+pairs-requires : tie.Need-pairs-requires
+pairs-requires c κs = search needs
+
+also-requires : tie.Need-also-requires
+also-requires c κs = search needs
+
+returns : tie.Need-returns
+unfolding R.ending
+returns c = cc
+
+pub ending-spec : {M : Type 1} → statement M
+ending-spec =
+    tie.close
+    (tie.spec byte-requires size-of-requires mul-end add-end pairs-requires also-requires returns)
