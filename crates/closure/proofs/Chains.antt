@@ -1,5 +1,5 @@
 -- The closure goal by goal: what callers may use is `closing-of` alone.
-use mathlib.Core.Path.{_≡_, refl, sym, ap, ap₂, _∙_}
+use mathlib.Core.Path.{_≡_, sym, ap, ap₂, _∙_}
 use mathlib.Core.Bool.{Bool, _&&_, _||_}
 use mathlib.Core.List.{List}
 use Prim.Native.Nat.{ℕ, suc, _+_, _<_, _≤_}
@@ -8,7 +8,6 @@ use native.Mathlib.Omega.{arith}
 use Rattle.expression.specs.Closure.{closed}
 use Rattle.expression.proofs.Closure.{closed-agree}
 use Rattle.graph.specs.Graph.{ahead, rowsOf, graphOf}
-use Rattle.graph.specs.declared.Graph.{Graph}
 use Rattle.graph.proofs.Rows.{rows-say, rows-cong}
 use Rattle.closure.specs.Closing.{Within, closing, through}
 

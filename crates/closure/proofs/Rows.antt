@@ -8,7 +8,7 @@ use lib.ListN.{length, getD}
 use Rattle.sets.specs.Sets.{has, union}
 use Rattle.sets.proofs.Laws.{has-union}
 use Rattle.sets.proofs.Builder.{union-lt}
-use Rattle.graph.specs.Graph.{hasGoal, ahead, rowsOf}
+use Rattle.graph.specs.Graph.{ahead}
 use Rattle.graph.proofs.Rows.{rows-length, rows-ext, row-lt, row-past}
 use Rattle.closure.specs.Closing.{Within, through, widen}
 use Rattle.closure.proofs.InPlace.{front, front-length, front-at, front-past}

@@ -1,6 +1,6 @@
 -- The closure of a dependency graph (01, "The waiting order": "a chain of waits leads from i to j").
 use mathlib.Core.Path.{_≡_}
-use mathlib.Core.Bool.{Bool, cond, _&&_, _||_}
+use mathlib.Core.Bool.{cond, _&&_, _||_}
 use mathlib.Core.List.{List}
 use Prim.Native.Nat.{ℕ, suc}
 use Rattle.sets.specs.Sets.{has, union}

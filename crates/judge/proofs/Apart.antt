@@ -1,6 +1,5 @@
 -- How a loop that takes the lowest variable off decides `eachApart`, for any width.
 use mathlib.Core.Path.{_≡_, refl, sym, ap, _∙_}
-use mathlib.Core.Logic.{_⊎_, inl, inr, ⊎-elim}
 use mathlib.Core.Bool.{Bool, true, false, not, _&&_, true≢false, false≢true}
 use mathlib.Core.List.{List}
 use Prim.Native.Nat.{ℕ, _^_, _<_}
@@ -8,7 +7,7 @@ use native.Mathlib.Decide.{ℕ-discrete}
 use lib.ListN.{getD}
 use lib.Dec.{eqb}
 use borrow.Author.Tests.{ne-eqb}
-use Rattle.logic.specs.Quantifiers.{every, implies}
+use Rattle.logic.specs.Quantifiers.{implies}
 use Rattle.logic.proofs.Bools.{iff, and-l, and-i, is-false, implies-in, implies-out}
 use Rattle.logic.proofs.Quantifiers.{every-in, every-out}
 use Rattle.sets.specs.Sets.{has, without, single, first, subset}

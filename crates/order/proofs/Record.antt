@@ -1,6 +1,6 @@
 -- The waits by arrays are those of the record, where the arrays hold its goals' variable sets and its listed pairs.
-use mathlib.Core.Path.{_≡_, refl, sym, ap, ap₂, _∙_}
-use mathlib.Core.Bool.{Bool, not, _&&_}
+use mathlib.Core.Path.{_≡_, sym, ap, ap₂, _∙_}
+use mathlib.Core.Bool.{Bool, _&&_}
 use mathlib.Core.List.{List}
 use Prim.Native.Nat.{ℕ, suc, compare·suc-suc, _≤_, _<_}
 use native.Mathlib.Omega.{arith}
@@ -12,11 +12,14 @@ use Rattle.arrays.specs.Table.{table}
 use Rattle.arrays.proofs.Table.{table-at, table-cong}
 use Rattle.graph.specs.Graph.{goalsOf, rowsOf}
 use Rattle.graph.specs.declared.Graph.{Graph}
-use Rattle.judge.specs.Independence.{independent}
 use Rattle.judge.specs.ByRows.{waitsBy}
 use Rattle.judge.proofs.Listed.{waits-listed}
-use Rattle.record.specs.Fields.{goalCount, groundSet, goalSet, listed}
-use Rattle.order.specs.Order.{groundAt, freeAt, waits}
+use Rattle.clause.specs.Clause.{goalSets, pairRows, clause}
+use Rattle.clause.specs.declared.Clause.{Clause}
+use Rattle.closure.specs.Closing.{Within, closing}
+use Rattle.closure.proofs.Chains.{rows-within, closing-of}
+use Rattle.record.specs.Fields.{goalCount, goalSet, listed}
+use Rattle.order.specs.Order.{groundAt, freeAt, waits, before, order}
 use Rattle.order.specs.Arrays.{waitsAt, waitRow, waitRows, waiting}
 
 ltb-suc : (i j : ℕ) → ltb i j ≡ ltb (suc i) (suc j)
@@ -57,9 +60,23 @@ module _ (b : List ℕ) where
     unfolding waitRow goalsOf
     row-is i l = setOf-cong (goalCount b) _ (λ j. waits b (suc i) (suc j)) (λ j k. waits-at i j l k)
 
-    pub rows-is : waitRows (goalCount b) (groundSet b) (table 32 (goalCount b) (λ i. goalSet b (suc i))) (table 64 64 (λ x. setOf 64 (listed b x)))
-        ≡ waiting b
-    unfolding waitRows waiting rowsOf goals pairs
-    rows-is =
-        ap (λ (l : List ℕ). record { n = goalCount b; rows = l })
+    pub clause-count : (c : Clause) → c ≡ clause b → c .n ≤ 32
+    unfolding clause
+    clause-count c e = rw e h
+
+    -- from the decoded clause
+    pub clause-waits : (c : Clause) → c ≡ clause b → waitRows (c .n) (c .ground) (c .sets) (c .rows) ≡ waiting b
+    unfolding clause goalSets pairRows waitRows waiting rowsOf goals pairs
+    clause-waits c e =
+        ap (λ (x : Clause). waitRows (x .n) (x .ground) (x .sets) (x .rows)) e
+        ∙ ap (λ (l : List ℕ). record { n = goalCount b; rows = l })
         (table-cong 32 (goalCount b) _ (λ i. goalsOf (goalCount b) (waits b (suc i))) (λ i l. row-is i l))
+
+    -- what the closure asks of the graph of the waits, and what it makes of it
+    pub waiting-within : (g : Graph) → g ≡ waiting b → (g .n ≤ 32) × Within (g .n) (g .rows)
+    unfolding waiting
+    waiting-within g e = rw e (h, rows-within (goalCount b) (waits b) h)
+
+    pub closing-waits : (g : Graph) → g ≡ waiting b → closing g ≡ order b
+    unfolding waiting order before
+    closing-waits g e = ap closing e ∙ closing-of (goalCount b) (waits b) h

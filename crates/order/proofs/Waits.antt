@@ -1,15 +1,14 @@
 -- How a loop makes the row of a goal.
-use mathlib.Core.Path.{_≡_, refl, sym, ap, _∙_}
-use mathlib.Core.Bool.{Bool, true, false, cond, _&&_}
+use mathlib.Core.Path.{_≡_, sym, ap, _∙_}
+use mathlib.Core.Bool.{Bool, cond, _&&_}
 use mathlib.Core.List.{List}
-use Prim.Native.Nat.{ℕ, suc, _+_, _^_, _≤_, _<_}
+use Prim.Native.Nat.{ℕ, _+_, _<_}
 use native.Mathlib.Numerals.{add-one}
 use native.Mathlib.Omega.{arith}
-use lib.Dec.{ltb}
 use lib.ListN.{getD}
 use lib.Pow.{pow-pos}
 use borrow.Author.Tests.{lt-ltb, le-ltb}
-use Rattle.sets.specs.Sets.{union, single, setOf}
+use Rattle.sets.specs.Sets.{union, single}
 use Rattle.sets.proofs.Laws.{has-empty}
 use Rattle.sets.proofs.Builder.{setOf-ext, setOf-more}
 use Rattle.judge.specs.ByRows.{waitsBy}

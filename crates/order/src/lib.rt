@@ -4,6 +4,8 @@ ghost use mathlib.Core.Bool.{cond};
 ghost use Prim.Native.Nat.{_<_, _≤_};
 ghost use denote.Ref.{now};
 ghost use Rattle.sets.specs.Sets as S;
+ghost use Rattle.record.specs.Fields as F;
+ghost use Rattle.order.specs.Order as O;
 ghost use Rattle.order.specs.Arrays as W;
 use graph::Graph;
 
@@ -47,4 +49,24 @@ fn wait_rows(n: usize, ground: u64, goals: &[u64; 32], rows: &[u64; 64]) -> Grap
         i += 1;
     }
     Graph { n, rows: waits }
+}
+
+// The waits of a record, before closure.
+pub fn waits_of(b: &[u8]) -> Graph
+    requires { ⌜ F.goalCount (now b) ≤ 32 ⌝ }
+    ensures { λ r. ⌜ r ≡ W.waiting (now (b .entry)) ⌝ }
+{
+    let c = clause::decode(b);
+    let goals = c.sets;
+    let rows = c.rows;
+    wait_rows(c.n, c.ground, &goals, &rows)
+}
+
+// The order of a record.
+pub fn order_of(b: &[u8]) -> Graph
+    requires { ⌜ F.goalCount (now b) ≤ 32 ⌝ }
+    ensures { λ r. ⌜ r ≡ O.order (now (b .entry)) ⌝ }
+{
+    let g = waits_of(b);
+    closure::close(g)
 }

@@ -1,11 +1,10 @@
 use borrow.Author.Needs.{needs}
 use native.Mathlib.Omega.{arith}
-use mathlib.Core.Path.{_≡_, refl, sym, ap, _∙_}
+use mathlib.Core.Path.{_≡_, ap, _∙_}
 use mathlib.Core.List.{List}
 use Prim.Native.Nat.{ℕ, _≤_, _-_}
 use Rattle.expression.specs.Closure.{closed}
 use Rattle.graph.specs.Graph.{ahead, rowsOf}
-use Rattle.graph.specs.declared.Graph.{Graph}
 use Rattle.closure.specs.Closing.{closing}
 use Rattle.closure.proofs.Chains.{chains-more, chains-within}
 use Rattle.closure.proofs.close.Statement.{statement}

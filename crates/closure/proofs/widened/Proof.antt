@@ -1,4 +1,4 @@
-use mathlib.Core.Path.{_≡_, sym, _∙_}
+use mathlib.Core.Path.{sym, _∙_}
 use Rattle.closure.proofs.Rows.{widen-in, widen-out}
 use borrow.Author.Needs.{needs}
 use Rattle.closure.proofs.widened.Statement.{statement}

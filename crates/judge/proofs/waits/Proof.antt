@@ -1,10 +1,8 @@
 use borrow.Author.Needs.{needs}
-use mathlib.Core.Path.{_≡_, refl, sym, ap, _∙_}
-use native.Mathlib.Omega.{arith}
+use mathlib.Core.Path.{sym, ap, _∙_}
 use Rattle.sets.specs.Sets.{subset}
 use Rattle.logic.proofs.Bools.{not-true}
 use Rattle.judge.proofs.Apart.{not-false}
-use Rattle.judge.specs.ByRows as J
 use Rattle.judge.proofs.ByMasks.{waits-shared, waits-apart}
 use Rattle.judge.proofs.waits.Statement.{statement}
 use Rattle.judge.proofs.waits.Tie as tie

@@ -1,13 +1,11 @@
 use borrow.Author.Needs.{needs}
 use native.Mathlib.Omega.{arith}
-use mathlib.Core.Path.{_≡_, refl, sym, ap, _∙_}
+use mathlib.Core.Path.{_≡_, ap, _∙_}
 use mathlib.Core.List.{List}
-use Prim.Native.Nat.{ℕ, _≤_, _<_, _-_}
+use Prim.Native.Nat.{ℕ, _≤_, _-_}
 use denote.Ref.{now}
-use lib.ListN.{replicate}
 use Rattle.arrays.specs.Table.{table}
 use Rattle.arrays.proofs.Table.{table-zero, table-more}
-use Rattle.graph.specs.declared.Graph.{Graph}
 use Rattle.order.specs.Arrays.{waitRow, waitRows}
 use Rattle.order.proofs.wait_rows.Statement.{statement}
 use Rattle.order.proofs.wait_rows.Tie as tie

@@ -1,6 +1,6 @@
 use mathlib.Core.Path.{ap}
 use Rattle.sets.specs.Sets.{union}
-use mathlib.Core.Path.{_≡_, sym, _∙_}
+use mathlib.Core.Path.{_∙_}
 use borrow.Author.Needs.{needs}
 use Rattle.order.proofs.with.Statement.{statement}
 use Rattle.order.proofs.with.Tie as tie
