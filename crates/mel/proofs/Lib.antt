@@ -2,3 +2,6 @@ pub mod Lists
 pub mod Whole
 pub mod Length
 pub mod Theorems
+pub mod Answers
+pub mod Accepted
+pub mod Record

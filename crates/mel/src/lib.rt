@@ -3,10 +3,14 @@ ghost use mathlib.Core.Path.{_≡_};
 ghost use mathlib.Core.Bool.{true, false};
 ghost use Prim.Native.Nat.{ℕ, _+_, _^_, _<_, _≤_};
 ghost use lib.ListN.{length};
+use record::Reading;
+use refusal::Refusal;
 ghost use Rattle.text.specs.Text.{Wrote};
+ghost use Rattle.text.specs.Lent.{stored};
 ghost use Rattle.stages.specs.Mel as W;
 ghost use Rattle.stages.specs.Masks as M;
 ghost use Rattle.mel.specs.Texts as X;
+ghost use Rattle.mel.specs.Annotation as N;
 
 // Writes one check of a variable.
 pub fn put_ground(out: &mut [u8], at: usize, x: u8) -> usize
@@ -203,4 +207,57 @@ pub fn put_stages(
     let mut o = put_stages(out, at, head, sets, before, grounds, rows, p);
     o = text::put_byte(out, o, b',');
     put_stage(out, o, head, sets, before, grounds, rows, p, q)
+}
+
+// What the operation answers.
+pub enum Written {
+    // The text's length.
+    Done(usize),
+    Refused(Refusal),
+}
+
+// Writes the annotation of a clause of 1 to 32 goals, or refuses with 12 and the length needed.
+fn write_clause(out: &mut [u8], head: u64, sets: &[u64], grounds: &[u64], rows: &[u64]) -> Written
+    requires { ⌜ (0 < length (now sets)) × (length (now sets) ≤ 32) ⌝ }
+    ensures {
+        λ r.
+          ⌜ N.values r
+          ≡ N.answerTo (X.melText head (now (sets .entry)) (now (grounds .entry)) (now (rows .entry))) (now (out .entry)) ⌝
+    }
+    ensures {
+        λ r.
+          ⌜ now (out .exit)
+          ≡ stored (X.melText head (now (sets .entry)) (now (grounds .entry)) (now (rows .entry))) (now (out .entry)) ⌝
+    }
+{
+    let n = sets.len();
+    let b = stages::up_to(sets);
+    let before = b.set;
+    let mut nowhere = [0u8; 0];
+    let need = put_stages(&mut nowhere, 0, head, sets, &before, grounds, rows, n);
+    let room = out.len();
+    if room < need {
+        return Written::Refused(Refusal { number: 12, place: need });
+    }
+    put_stages(out, 0, head, sets, &before, grounds, rows, n);
+    Written::Done(need)
+}
+
+// Writes the annotation of a record: refusals 1 to 11 of reading it, then 12.
+pub fn write(b: &[u8], out: &mut [u8]) -> Written
+    ensures { λ r. ⌜ N.values r ≡ N.melAnswer (now (b .entry)) (now (out .entry)) ⌝ }
+    ensures { λ r. ⌜ now (out .exit) ≡ N.melBuffer (now (b .entry)) (now (out .entry)) ⌝ }
+{
+    let s = record::read(b);
+    match s {
+        Reading::Refused(r) => Written::Refused(r),
+        Reading::Fine => {
+            let c = clause::decode(b);
+            let n = c.n;
+            let sets = c.sets;
+            let rows = c.rows;
+            let grounds = [c.ground; 32];
+            write_clause(out, c.head, &sets[..n], &grounds, &rows)
+        }
+    }
 }
