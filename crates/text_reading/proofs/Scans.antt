@@ -18,8 +18,8 @@ use Rattle.grammar.specs.Reader.{Sign, digit, joiner, opener, closer, other, si
 use Rattle.grammar.specs.Numbers.{Found, found, fresh, grown, scan, numbers, among, fault}
 use Rattle.grammar.proofs.Signs.{Is, sign-is, sign-digit}
 use Rattle.parser.proofs.Runs.{drop-at}
-use Rattle.reading.specs.declared.Spot.the-variants.{At, Nowhere}
-use Rattle.reading.specs.Answers.{isDigit, foundAt, valueAt, spot, faultIn}
+use Rattle.text_reading.specs.declared.Spot.the-variants.{At, Nowhere}
+use Rattle.text_reading.specs.Answers.{isDigit, foundAt, valueAt, spot, faultIn}
 
 -- ---- one number
 grown-place : (x : Found) (c : Sign) → grown x c .place ≡ x .place

@@ -11,11 +11,11 @@ use Rattle.grammar.specs.Reader.{sign}
 use Rattle.grammar.specs.Numbers.{Found, found, grown, numbers}
 use Rattle.grammar.specs.Numbers
 use Rattle.grammar.specs.Reading.{Ruling, refusal, answer}
-use Rattle.reading.specs.declared.Outcome.{Outcome}
-use Rattle.reading.specs.declared.Outcome.the-variants.{Read, Refused}
-use Rattle.reading.specs.declared.TextAnswer.{TextAnswer}
-use Rattle.reading.specs.declared.Spot.{Spot}
-use Rattle.reading.specs.declared.Spot.the-variants.{At, Nowhere}
+use Rattle.text_reading.specs.declared.Outcome.{Outcome}
+use Rattle.text_reading.specs.declared.Outcome.the-variants.{Read, Refused}
+use Rattle.text_reading.specs.declared.TextAnswer.{TextAnswer}
+use Rattle.text_reading.specs.declared.Spot.{Spot}
+use Rattle.text_reading.specs.declared.Spot.the-variants.{At, Nowhere}
 
 -- the byte is one of `0` to `9`
 abbrev pub isDigit : ℕ → Bool

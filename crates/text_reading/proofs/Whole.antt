@@ -30,11 +30,11 @@ use Rattle.parser.specs.declared.Node.{Node}
 use Rattle.parser.specs.declared.Part.{Part}
 use Rattle.parser.specs.declared.Part.the-variants.{Read as Done, Bad}
 use Rattle.parser.specs.Reads.{Told, Parsed}
-use Rattle.reading.specs.declared.Outcome.the-variants.{Read}
-use Rattle.reading.specs.declared.TextAnswer.{TextAnswer}
-use Rattle.reading.specs.declared.Spot.{Spot}
-use Rattle.reading.specs.declared.Spot.the-variants.{At, Nowhere}
-use Rattle.reading.specs.Answers.{spot, faultIn, textAnswer}
+use Rattle.text_reading.specs.declared.Outcome.the-variants.{Read}
+use Rattle.text_reading.specs.declared.TextAnswer.{TextAnswer}
+use Rattle.text_reading.specs.declared.Spot.{Spot}
+use Rattle.text_reading.specs.declared.Spot.the-variants.{At, Nowhere}
+use Rattle.text_reading.specs.Answers.{spot, faultIn, textAnswer}
 
 spot-none : (o : Option ℕ) → Nowhere ≡ spot o → o ≡ none
 spot-none none h = refl

@@ -2,10 +2,10 @@ use mathlib.Core.Path.{sym, ap}
 use mathlib.Core.Bool.{_&&_}
 use lib.Dec.{leb}
 use borrow.Author.Tests.{le-leb, lt-leb}
-use Rattle.reading.proofs.is_digit.Statement.{statement}
-use Rattle.reading.proofs.is_digit.Tie as tie
-use Rattle.reading.proofs.is_digit.Reads as reads
-use Rattle.reading.proofs.is_digit.Lts as lts
+use Rattle.text_reading.proofs.is_digit.Statement.{statement}
+use Rattle.text_reading.proofs.is_digit.Tie as tie
+use Rattle.text_reading.proofs.is_digit.Reads as reads
+use Rattle.text_reading.proofs.is_digit.Lts as lts
 
 -- src/lib.rt:33:1
 returns : tie.Need-returns

@@ -7,7 +7,7 @@ ghost use mathlib.Core.Bool.{true};
 ghost use Prim.Native.Nat.{_<_, _≤_, _^_};
 ghost use lib.ListN.{getD};
 ghost use Rattle.grammar.specs.Reading.{readText};
-ghost use Rattle.reading.specs.Answers.{isDigit, valueAt, faultIn, turned, textAnswer};
+ghost use Rattle.text_reading.specs.Answers.{isDigit, valueAt, faultIn, turned, textAnswer};
 
 // The longest text that is read.
 const LONGEST: usize = 512;

@@ -2,15 +2,15 @@ use mathlib.Core.Path.{sym, ap, _∙_}
 use Prim.Native.Nat.{_-_}
 use native.Mathlib.Omega.{arith}
 use lib.ListN.{getD}
-use Rattle.reading.specs.Answers.{isDigit}
-use Rattle.reading.proofs.Scans.{digit-is, value-two, value-one}
+use Rattle.text_reading.specs.Answers.{isDigit}
+use Rattle.text_reading.proofs.Scans.{digit-is, value-two, value-one}
 use borrow.Author.Needs.{needs}
-use Rattle.reading.proofs.number_at.Statement.{statement}
-use Rattle.reading.proofs.number_at.Tie as tie
-use Rattle.reading.proofs.number_at.Reads as reads
-use Rattle.reading.proofs.number_at.Lts as lts
+use Rattle.text_reading.proofs.number_at.Statement.{statement}
+use Rattle.text_reading.proofs.number_at.Tie as tie
+use Rattle.text_reading.proofs.number_at.Reads as reads
+use Rattle.text_reading.proofs.number_at.Lts as lts
 use Rattle.parser.proofs.peek.Reads as peek-reads
-use Rattle.reading.proofs.is_digit.Reads as is-digit-reads
+use Rattle.text_reading.proofs.is_digit.Reads as is-digit-reads
 
 -- src/lib.rt:44:13
 peek-requires : tie.Need-peek-requires

@@ -1,8 +1,8 @@
 use borrow.Author.Needs.{needs}
-use Rattle.reading.proofs.refused.Statement.{statement}
-use Rattle.reading.proofs.refused.Tie as tie
-use Rattle.reading.proofs.refused.Reads as reads
-use Rattle.reading.proofs.refused.Lts as lts
+use Rattle.text_reading.proofs.refused.Statement.{statement}
+use Rattle.text_reading.proofs.refused.Tie as tie
+use Rattle.text_reading.proofs.refused.Reads as reads
+use Rattle.text_reading.proofs.refused.Lts as lts
 use Rattle.graph.proofs.Graph.empty.Reads as empty-reads
 
 -- src/lib.rt:83:9

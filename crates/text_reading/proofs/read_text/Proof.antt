@@ -2,16 +2,16 @@ use mathlib.Core.Path.{sym, ap, _∙_}
 use native.Mathlib.Omega.{arith}
 use Rattle.sets.specs.Sets.{subset}
 use Rattle.rows.proofs.Linking.{words-zero}
-use Rattle.reading.specs.Answers.{textAnswer}
-use Rattle.reading.proofs.Whole.{text-short, text-long, text-bad, text-fault, text-lacks, text-done}
+use Rattle.text_reading.specs.Answers.{textAnswer}
+use Rattle.text_reading.proofs.Whole.{text-short, text-long, text-bad, text-fault, text-lacks, text-done}
 use borrow.Author.Needs.{needs}
-use Rattle.reading.proofs.read_text.Statement.{statement}
-use Rattle.reading.proofs.read_text.Tie as tie
-use Rattle.reading.proofs.read_text.Reads as reads
-use Rattle.reading.proofs.read_text.Lts as lts
+use Rattle.text_reading.proofs.read_text.Statement.{statement}
+use Rattle.text_reading.proofs.read_text.Tie as tie
+use Rattle.text_reading.proofs.read_text.Reads as reads
+use Rattle.text_reading.proofs.read_text.Lts as lts
 use Rattle.parser.proofs.parse.Reads as parse-reads
-use Rattle.reading.proofs.fault.Reads as fault-reads
-use Rattle.reading.proofs.refused.Reads as refused-reads
+use Rattle.text_reading.proofs.fault.Reads as fault-reads
+use Rattle.text_reading.proofs.refused.Reads as refused-reads
 use Rattle.sets.proofs.below32.Reads as below32-reads
 use Rattle.sets.proofs.subset32.Reads as subset32-reads
 

@@ -4,13 +4,13 @@ use native.Mathlib.Omega.{arith}
 use lib.ListN.{length}
 use borrow.Author.Needs.{needs}
 use Rattle.sets.specs.Sets.{has, union, single}
-use Rattle.reading.proofs.Scans.{Scanned, scanned-start, scanned-above, scanned-met, scanned-more, scanned-skip, scanned-end}
-use Rattle.reading.proofs.fault.Statement.{statement}
-use Rattle.reading.proofs.fault.Tie as tie
-use Rattle.reading.proofs.fault.Reads as reads
-use Rattle.reading.proofs.fault.Lts as lts
-use Rattle.reading.proofs.is_digit.Reads as is-digit-reads
-use Rattle.reading.proofs.number_at.Reads as number-at-reads
+use Rattle.text_reading.proofs.Scans.{Scanned, scanned-start, scanned-above, scanned-met, scanned-more, scanned-skip, scanned-end}
+use Rattle.text_reading.proofs.fault.Statement.{statement}
+use Rattle.text_reading.proofs.fault.Tie as tie
+use Rattle.text_reading.proofs.fault.Reads as reads
+use Rattle.text_reading.proofs.fault.Lts as lts
+use Rattle.text_reading.proofs.is_digit.Reads as is-digit-reads
+use Rattle.text_reading.proofs.number_at.Reads as number-at-reads
 use Rattle.sets.proofs.has.Reads as has-reads
 use Rattle.sets.proofs.single.Reads as single-reads
 use Rattle.sets.proofs.union.Reads as union-reads
