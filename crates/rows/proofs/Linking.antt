@@ -6,7 +6,8 @@ use mathlib.Core.Logic.{dite}
 use Prim.Native.Nat.{ℕ, suc, _^_, _<_}
 use native.Mathlib.Omega.{arith}
 use native.Mathlib.Decide.{decLt}
-use lib.ListN.{length, getD, set, length-set}
+use lib.ListN.{length, getD, set, replicate, length-set, length-replicate, getD-replicate, List·getD-eq-default}
+use lib.Pow.{pow-pos}
 use lib.Seq.{getD-set-same, getD-set-other}
 use borrow.Author.Tests.{eq-eqb, ne-eqb}
 use Rattle.logic.proofs.Bools.{and-l}
@@ -108,3 +109,12 @@ module _ (front later : ℕ) (old : List ℕ) where
           go : (b : Bool) → has (mixed (b && true) i) j ≡ (has (getD old i 0) j || (b && has later j))
           go true = has-union (getD old i 0) later j
           go false = sym (or-false (has (getD old i 0) j))
+
+-- rows without an edge
+pub words-zero : Words (replicate 32 0)
+words-zero = record { size = length-replicate {A = ℕ} 32 0; small = λ i. small i }
+  where
+    small : (i : ℕ) → getD (replicate 32 0) i 0 < 2 ^ 32
+    small i =
+        dite (decLt i 32) (λ l. subst (λ z. z < 2 ^ 32) (sym (getD-replicate {A = ℕ} 32 i 0 0 l)) (pow-pos 32))
+        (λ l. subst (λ z. z < 2 ^ 32) (sym (List·getD-eq-default (replicate 32 0) 0 {n = i} (omega (arith, length-replicate {A = ℕ} 32 0)))) (pow-pos 32))

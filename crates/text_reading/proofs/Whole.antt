@@ -1,0 +1,159 @@
+-- One law for each way out of the whole reading.
+use mathlib.Core.Path.{_≡_, refl, sym, ap, ap₂, _∙_, subst}
+use mathlib.Core.Bool.{Bool, true, false, _||_, cond, true≢false}
+use mathlib.Core.List.{List, []}
+use mathlib.Core.Option.{Option, none, some}
+use mathlib.Core.Logic.{⊎-elim, dite}
+use Prim.Native.Nat.{ℕ, zero, suc, _+_, _^_, _<_, _≤_}
+use native.Mathlib.Omega.{arith}
+use native.Mathlib.Decide.{decLt}
+use lib.Dec.{eqb, leb, ltb}
+use lib.ListN.{length, getD, replicate, getD-replicate}
+use borrow.Author.Tests.{ne-eqb, eqb-false, leb-true, le-leb, lt-leb, lt-ltb, ltb-true}
+use Rattle.logic.proofs.Bools.{is-false}
+use Rattle.sets.specs.Sets.{has, subset, below}
+use Rattle.sets.proofs.Laws.{has-empty, has-below, member-below, none-empty, subset-has, has-subset}
+use Rattle.sets.proofs.Builder.{members-lt}
+use Rattle.graph.specs.Graph.{hasGoal, ahead, goalsOf, rowsOf}
+use Rattle.graph.proofs.Rows.{goals-ext, rows-ext}
+use Rattle.expression.specs.Expr.{Expr, times, stands, before, UsesOnce}
+use Rattle.expression.proofs.Bools.{test, or-false}
+use Rattle.expression.proofs.Spec.{stands-in, before-in}
+use Rattle.expression.proofs.Theorems.{uses-in}
+use Rattle.grammar.specs.Reader.{read}
+use Rattle.grammar.specs.Numbers.{numbers, fault, missing, misuse}
+use Rattle.grammar.specs.Reading.{Ruling, refusal, answer, numbered, decided, readText}
+use Rattle.grammar.proofs.Decides.{read-accepts}
+use Rattle.grammar.proofs.Goals.{misuse-none}
+use Rattle.rows.specs.Rows.{Words}
+use Rattle.parser.specs.declared.Node.{Node}
+use Rattle.parser.specs.declared.Part.{Part}
+use Rattle.parser.specs.declared.Part.the-variants.{Read as Done, Bad}
+use Rattle.parser.specs.Reads.{Told, Parsed}
+use Rattle.text_reading.specs.declared.Outcome.the-variants.{Read}
+use Rattle.text_reading.specs.declared.TextAnswer.{TextAnswer}
+use Rattle.text_reading.specs.declared.Spot.{Spot}
+use Rattle.text_reading.specs.declared.Spot.the-variants.{At, Nowhere}
+use Rattle.text_reading.specs.Answers.{spot, faultIn, textAnswer}
+
+spot-none : (o : Option ℕ) → Nowhere ≡ spot o → o ≡ none
+spot-none none h = refl
+spot-none (some p) h = cc
+
+spot-some : (o : Option ℕ) (p : ℕ) → At p ≡ spot o → o ≡ some p
+spot-some none p h = cc
+spot-some (some q) p h = let e : p ≡ q = cc in ap (λ z. some z) (sym e)
+
+-- ---- goals that are missing
+none-missing : (n : ℕ) (x : Expr) → ((i : ℕ) → i < n → stands x (suc i) ≡ true) → missing n x ≡ false
+none-missing zero x h = refl
+none-missing (suc n) x h =
+    let here : 1 ≤ times x (suc n) = leb-true 1 (times x (suc n)) (h n (omega arith)) in
+    ap₂ (λ a b. a || b) (ne-eqb (times x (suc n)) 0 (λ e. omega arith)) (none-missing n x (λ i l. h i (omega arith)))
+
+missing-none : (n : ℕ) (x : Expr) → missing n x ≡ false → (i : ℕ) → i < n → stands x (suc i) ≡ true
+missing-none zero x h i l = absurd (omega arith)
+missing-none (suc n) x h i l =
+    let p = or-false (eqb (times x (suc n)) 0) (missing n x) h in
+    dite (decLt i n) (λ b. missing-none n x (p .1) i b)
+    (λ b. let e : suc n ≡ suc i = omega arith in subst (λ z. stands x z ≡ true) e (le-leb 1 (times x (suc n)) (pos (times x (suc n)) (eqb-false (times x (suc n)) 0 (p .0)))))
+  where
+    pos : (m : ℕ) → (m ≡ 0 → ⊥) → 1 ≤ m
+    pos zero n = absurd (n refl)
+    pos (suc m) n = omega arith
+
+module _ (n : ℕ) (x : Expr) (set : ℕ) (few : n ≤ 32) (told : (i : ℕ) → i < 32 → has set i ≡ stands x (suc i)) where
+  all-there : subset (below n) set ≡ true → missing n x ≡ false
+  all-there h = none-missing n x (λ i l. sym (told i (omega arith)) ∙ subset-has (below n) set h i (has-below n i ∙ lt-ltb i n l))
+
+  some-lack : subset (below n) set ≡ false → missing n x ≡ true
+  some-lack h = ⊎-elim (λ t. t) (λ t. absurd (true≢false (sym (whole t) ∙ h))) (test (missing n x))
+    where
+      whole : missing n x ≡ false → subset (below n) set ≡ true
+      whole t =
+          has-subset (below n) set (λ i e.
+          let l = ltb-true i n (sym (has-below n i) ∙ e) in
+          told i (omega arith) ∙ missing-none n x t i l)
+
+-- ---- the graph and the set of an expression that uses each goal once
+module _ (n : ℕ) (x : Expr) (set : ℕ) (now : List ℕ) (few : n ≤ 32) (uses : UsesOnce n x) (small : set < 2 ^ 32)
+    (stand : (i : ℕ) → i < 32 → has set i ≡ stands x (suc i)) (order : (i j : ℕ) → i < 32 → j < 32 → ahead now (suc i) (suc j) ≡ before x (suc i) (suc j)) (words : Words now) where
+  goal-in : (i : ℕ) → stands x (suc i) ≡ true → i < n
+  goal-in i h = omega (arith, uses-in n x uses (suc i) (stands-in x (suc i) h) .1)
+
+  met-is : set ≡ goalsOf n (stands x)
+  met-is = goals-ext n set (stands x) (members-lt n set (λ i e. goal-in i (sym (stand i (member-below 32 set i small e)) ∙ e))) (λ g. at g)
+    where
+      at : (g : ℕ) → 1 ≤ g → g ≤ n → hasGoal set g ≡ stands x g
+      at zero a b = absurd (omega arith)
+      at (suc i) a b = stand i (omega arith)
+
+  -- a bit of a row is an order of two goals
+  bit : (i j : ℕ) → i < 32 → has (getD now i 0) j ≡ true → (i < n) × (j < n)
+  bit i j l h =
+      let b = before-in x (suc i) (suc j) (sym (order i j l (member-below 32 (getD now i 0) j (words .small i) h)) ∙ h) in
+      (omega (arith, uses-in n x uses (suc i) (b .0) .1), omega (arith, uses-in n x uses (suc j) (b .1) .1))
+
+  rows-are : now ≡ rowsOf n (before x)
+  rows-are =
+      rows-ext n (before x) now few (words .size) (λ i l. members-lt n (getD now i 0) (λ j e. bit i j (omega arith) e .1)) (λ i j. at i j)
+      (λ i l p. none-empty (getD now i 0) (λ j. is-false (has (getD now i 0) j) (λ e. absurd (omega (arith, p, bit i j l e .0)))))
+    where
+      at : (i j : ℕ) → 1 ≤ i → i ≤ n → 1 ≤ j → j ≤ n → ahead now i j ≡ before x i j
+      at zero j a b c d = absurd (omega arith)
+      at (suc i) zero a b c d = absurd (omega arith)
+      at (suc i) (suc j) a b c d = order i j (omega arith) (omega arith)
+
+module _ (n : ℕ) (s : List ℕ) where
+  pub text-short : length s < 1 → refusal 15 0 ≡ readText n s
+  unfolding readText
+  text-short h = rw (lt-leb 1 (length s) h)
+
+  pub text-long : 512 < length s → refusal 15 0 ≡ readText n s
+  unfolding readText
+  text-long h = rw (le-leb 1 (length s) (omega arith), lt-leb (length s) 512 h)
+
+  module _ (lo : 1 ≤ length s) (hi : length s ≤ 512) where
+    sized : readText n s ≡ decided n s (read 32 s)
+    unfolding readText
+    sized = rw (le-leb 1 (length s) lo, le-leb (length s) 512 hi)
+
+    module _ (r : Part) (now : List ℕ) (h : Parsed s (replicate 32 0) r now) where
+      pub text-bad : (p : ℕ) → r ≡ Bad p → refusal 16 p ≡ readText n s
+      text-bad p e = sym (sized ∙ ap (λ z. decided n s z) (subst (λ z. Parsed s (replicate 32 0) z now) e h))
+
+      module _ (nd : Node) (q : r ≡ Done nd) where
+        parsed : Parsed s (replicate 32 0) (Done nd) now
+        parsed = subst (λ z. Parsed s (replicate 32 0) z now) q h
+
+        reads : readText n s ≡ numbered (parsed .0) (misuse n s (parsed .0))
+        reads = sized ∙ ap (λ z. decided n s z) (parsed .1)
+
+        pub text-fault : (v : Spot) (p : ℕ) → v ≡ faultIn n s → v ≡ At p → refusal 17 p ≡ readText n s
+        text-fault v p f g =
+            let m : misuse n s (parsed .0) ≡ some p = rw (spot-some (fault n [] (numbers s)) p (sym g ∙ f)) in
+            sym (reads ∙ ap (λ o. numbered (parsed .0) o) m)
+
+        module _ (few : n ≤ 32) (v : Spot) (f : v ≡ faultIn n s) (g : v ≡ Nowhere) where
+          misused : (b : Bool) → missing n (parsed .0) ≡ b → misuse n s (parsed .0) ≡ cond b (some (length s)) none
+          misused b e = rw (spot-none (fault n [] (numbers s)) (sym g ∙ f)) (ap (λ z. cond z (some (length s)) none) e)
+
+          pub text-lacks : subset (below n) (nd .set) ≡ false → refusal 17 (length s) ≡ readText n s
+          text-lacks l =
+              sym (reads ∙ ap (λ o. numbered (parsed .0) o) (misused true (some-lack n (parsed .0) (nd .set) few (parsed .2 .stand) l)))
+
+          pub text-done : subset (below n) (nd .set) ≡ true → nd .set < 2 ^ 32
+              → _≡_ {A = TextAnswer} (record { outcome = Read; graph = record { n = n; rows = now }; met = nd .set }) (textAnswer n (readText n s))
+          text-done l small =
+              let m = misused false (all-there n (parsed .0) (nd .set) few (parsed .2 .stand) l) in
+              let u = misuse-none 32 n s (parsed .0) (read-accepts 32 s (parsed .0) .0 (parsed .1)) .0 m in
+              let w = parsed .2 .words in
+              ap₂ (λ a b. record { outcome = Read; graph = record { n = n; rows = a }; met = b })
+              (rows-are n (parsed .0) (nd .set) now few u small (parsed .2 .stand) order w) (met-is n (parsed .0) (nd .set) now few u small (parsed .2 .stand) order w)
+              ∙ sym (ap (λ z. textAnswer n z) (reads ∙ ap (λ o. numbered (parsed .0) o) m))
+            where
+              blank : (i j : ℕ) → i < 32 → ahead (replicate 32 0) (suc i) (suc j) ≡ false
+              blank i j l = ap (λ z. has z j) (getD-replicate 32 i 0 0 l) ∙ has-empty j
+
+              order : (i j : ℕ) → i < 32 → j < 32 → ahead now (suc i) (suc j) ≡ before (parsed .0) (suc i) (suc j)
+              order i j a b = parsed .2 .order i j a b ∙ ap (λ z. z || before (parsed .0) (suc i) (suc j)) (blank i j a)

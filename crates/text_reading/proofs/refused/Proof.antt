@@ -1,0 +1,17 @@
+use borrow.Author.Needs.{needs}
+use Rattle.text_reading.proofs.refused.Statement.{statement}
+use Rattle.text_reading.proofs.refused.Tie as tie
+use Rattle.text_reading.proofs.refused.Reads as reads
+use Rattle.text_reading.proofs.refused.Lts as lts
+use Rattle.graph.proofs.Graph.empty.Reads as empty-reads
+
+-- src/lib.rt:83:9
+empty-requires : tie.Need-empty-requires
+empty-requires c κs = search needs
+
+-- src/lib.rt:79:1
+returns : tie.Need-returns
+returns c = rw (c .empty .ensures)
+
+pub refused-spec : {M : Type 1} → statement M
+refused-spec = tie.close (tie.spec empty-requires returns)

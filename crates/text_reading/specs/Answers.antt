@@ -1,0 +1,46 @@
+-- What reading a text answers, as values: the paper's number and place with a refusal, every other field zero.
+use mathlib.Core.Bool.{Bool, _&&_}
+use mathlib.Core.List.{List, []}
+use mathlib.Core.Option.{Option, none, some}
+use Prim.Native.Nat.{ℕ, _+_, _-_}
+use lib.Dec.{leb}
+use lib.ListN.{getD}
+use Rattle.graph.specs.Graph.{goalsOf, graphOf, edgeless}
+use Rattle.expression.specs.Expr.{Expr, stands, before}
+use Rattle.grammar.specs.Reader.{sign}
+use Rattle.grammar.specs.Numbers.{Found, found, grown, numbers}
+use Rattle.grammar.specs.Numbers
+use Rattle.grammar.specs.Reading.{Ruling, refusal, answer}
+use Rattle.text_reading.specs.declared.Outcome.{Outcome}
+use Rattle.text_reading.specs.declared.Outcome.the-variants.{Read, Refused}
+use Rattle.text_reading.specs.declared.TextAnswer.{TextAnswer}
+use Rattle.text_reading.specs.declared.Spot.{Spot}
+use Rattle.text_reading.specs.declared.Spot.the-variants.{At, Nowhere}
+
+-- the byte is one of `0` to `9`
+abbrev pub isDigit : ℕ → Bool
+isDigit b = leb 48 b && leb b 57
+
+-- the number that begins at the place a
+abbrev pub foundAt : List ℕ → ℕ → Found
+foundAt s a = grown (found (getD s a 0 - 48) a) (sign (getD s (a + 1) 0))
+
+abbrev pub valueAt : List ℕ → ℕ → ℕ
+valueAt s a = foundAt s a .value
+
+-- the leftmost number above n or met before
+abbrev pub spot : Option ℕ → Spot
+spot none = Nowhere
+spot (some p) = At p
+
+abbrev pub faultIn : ℕ → List ℕ → Spot
+faultIn n s = spot (Numbers.fault n [] (numbers s))
+
+-- "A refusal returns its number and a place, every other field zero"
+abbrev pub turned : ℕ → ℕ → TextAnswer
+turned k p = record { outcome = Refused (record { number = k; place = p }); graph = edgeless 0; met = 0 }
+
+-- the answer that a ruling on a text for n goals is: with an expression its order and its goals
+abbrev pub textAnswer : ℕ → Ruling Expr → TextAnswer
+textAnswer n (refusal k p) = turned k p
+textAnswer n (answer e) = record { outcome = Read; graph = graphOf n (before e); met = goalsOf n (stands e) }
