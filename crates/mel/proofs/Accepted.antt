@@ -8,8 +8,8 @@ use lib.ListN.{length}
 use borrow.Author.Tests.{leb-true}
 use Rattle.logic.proofs.Bools.{and-l, and-r}
 use Rattle.sets.specs.Sets.{within, subset}
-use Rattle.record.specs.declared.Reading.{Reading}
-use Rattle.record.specs.declared.Reading.the-variants.{Fine, Refused}
+use Rattle.reading.specs.declared.Reading.{Reading}
+use Rattle.reading.specs.declared.Reading.the-variants.{Fine, Refused}
 use Rattle.record.specs.Fields.{goalCount, varCount, pairCount, headSet, groundSet, set, textAt, textLengthAt, lengthAt, goalEnd, placeAfter, pairAt, mark, version}
 use Rattle.record.specs.Reading.{_must_else_place_, between, counts, head, ground, header, textLimit, badText, goal, goals, ordered, ascends, pair, pairs, ending, readingOf, reading, versionOne}
 

@@ -6,8 +6,8 @@ use lib.ListN.{length}
 use Rattle.judge.specs.Independence.{knownIndependent}
 use Rattle.record.specs.Fields.{goalCount, headSet, groundSet, goalSet, listed}
 use Rattle.record.specs.Reading.{reading}
-use Rattle.record.specs.declared.Reading.{Reading}
-use Rattle.record.specs.declared.Reading.the-variants.{Fine, Refused}
+use Rattle.reading.specs.declared.Reading.{Reading}
+use Rattle.reading.specs.declared.Reading.the-variants.{Fine, Refused}
 use Rattle.refusal.specs.declared.Refusal.{Refusal}
 use Rattle.stages.specs.Mel.{Clause, goalsFrom, melText}
 use Rattle.text.specs.Lent.{fits, stored}

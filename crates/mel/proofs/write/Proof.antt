@@ -6,7 +6,7 @@ use native.Mathlib.Omega.{arith}
 use denote.Ref.{now}
 use lib.ListN.{length, length-append}
 use borrow.Author.Needs.{needs}
-use Rattle.record.specs.declared.Reading.the-variants.{Fine}
+use Rattle.reading.specs.declared.Reading.the-variants.{Fine}
 use Rattle.record.specs.Fields.{goalCount}
 use Rattle.record.specs.Reading.{reading}
 use lib.ListN.{take}
