@@ -1,0 +1,85 @@
+-- What the fields of a well-formed record give. Assumes nothing.
+use mathlib.Core.Path.{_≡_, subst}
+use mathlib.Core.Bool.{true}
+use mathlib.Core.List.{List}
+use Prim.Native.Nat.{ℕ, zero, suc, _+_, _-_, _*_, _^_, _≤_, _<_}
+use native.Mathlib.Nat.{le-of-suc-le-suc, lt-of-lt-of-le, zero-lt-suc}
+use native.Mathlib.Omega.{arith}
+use lib.ListN.{length}
+use lib.Pow.{pow-mono}
+use Rattle.sets.specs.Sets.{has}
+use Rattle.sets.proofs.Laws.{below-of, member-below}
+use Rattle.sets.proofs.Builder.{members-lt}
+use Rattle.fields.specs.Fields.{byte, goalCount, varCount, pairCount, headSet, groundSet, goalSet, textPlace, textLength, textLengthAt, placeAfter, goalPlace, pairAt}
+use Rattle.reading.specs.declared.Reading.the-variants.{Fine}
+use Rattle.reading.specs.Reading.{reading}
+use Rattle.record.specs.WellFormed.{WellFormedGoal, WellFormedPair, WellFormed}
+use Rattle.record.proofs.WellFormed.{fine-well-formed}
+
+module _ (b : List ℕ) (w : WellFormed b) where
+  -- v ≤ 64, so that a set of variables below v is a mask of 64 bits
+  pub vars-fit : 2 ^ varCount b ≤ 2 ^ 64
+  vars-fit = pow-mono (w .vars-to)
+
+  -- ---- sets
+
+  pub head-lt : headSet b < 2 ^ varCount b
+  head-lt = below-of (varCount b) (headSet b) (w .head-below)
+
+  pub head-fits : headSet b < 2 ^ 64
+  head-fits = lt-of-lt-of-le head-lt vars-fit
+
+  pub ground-lt : groundSet b < 2 ^ varCount b
+  ground-lt = members-lt (varCount b) (groundSet b) (λ x e. member-below (varCount b) (headSet b) x head-lt (w .ground-inside x e))
+
+  pub ground-fits : groundSet b < 2 ^ 64
+  ground-fits = lt-of-lt-of-le ground-lt vars-fit
+
+  pub set-lt : (g : ℕ) → 1 ≤ g → g ≤ goalCount b → goalSet b g < 2 ^ varCount b
+  unfolding goalSet
+  set-lt g l h = below-of (varCount b) _ (w .goals g l h .set-below)
+
+  pub set-fits : (g : ℕ) → 1 ≤ g → g ≤ goalCount b → goalSet b g < 2 ^ 64
+  set-fits g l h = lt-of-lt-of-le (set-lt g l h) vars-fit
+
+  -- ---- texts
+
+  pub text-inside : (g : ℕ) → 1 ≤ g → g ≤ goalCount b → textPlace b g + textLength b g ≤ length b
+  unfolding textPlace textLength
+  text-inside g l h = w .goals g l h .text-whole
+
+  pub text-some : (g : ℕ) → 1 ≤ g → g ≤ goalCount b → 1 ≤ textLength b g
+  unfolding textLength
+  text-some g l h = w .goals g l h .length-from
+
+  pub text-limit : (g : ℕ) → 1 ≤ g → g ≤ goalCount b → textLength b g ≤ 40
+  unfolding textLength
+  text-limit g l h = w .goals g l h .length-to
+
+  -- ---- pairs
+
+  pub lower-below : (k : ℕ) → k < pairCount b → byte b (pairAt b k) < varCount b
+  lower-below k h = let p = w .pairs k h in omega (arith, p .lower-first, p .pair-below)
+
+  pub higher-below : (k : ℕ) → k < pairCount b → byte b (pairAt b k + 1) < varCount b
+  higher-below k h = w .pairs k h .pair-below
+
+  -- ---- the length
+
+  pub place-limit : (g : ℕ) → g ≤ goalCount b → placeAfter b g ≤ 24 + 49 * g
+  unfolding placeAfter
+  place-limit zero h = omega arith
+  place-limit (suc g) h =
+      let e : suc g - 1 ≡ g = omega arith in
+      let k : textLengthAt b (placeAfter b (suc g - 1)) ≤ 40 = w .goals (suc g) (omega arith) h .length-to in
+      let k₂ : textLengthAt b (placeAfter b g) ≤ 40 = subst (λ (x : ℕ). textLengthAt b (placeAfter b x) ≤ 40) e k in
+      let r = place-limit g (omega arith) in
+      omega (arith, k₂, r)
+
+  -- 24 bytes, 32 goals of 49 bytes and 255 pairs
+  pub length-limit : pairCount b < 256 → length b ≤ 2102
+  length-limit p = let l = place-limit (goalCount b) (omega arith) in omega (arith, l, w .goals-to, w .nothing-left, p)
+
+-- 01: "every record that fills it is already refused": a longer input is not read to the end as fine
+pub long-refused : (b : List ℕ) → pairCount b < 256 → 2102 < length b → reading b ≡ Fine → ⊥
+long-refused b p l e = let h = length-limit b (fine-well-formed b e) p in omega (arith, h, l)
