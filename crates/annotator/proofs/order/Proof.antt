@@ -1,0 +1,55 @@
+use Rattle.annotator.proofs.Answers.{accepted, read-fine, read-refused, order-fine, order-refused}
+use borrow.Author.Needs.{needs}
+use Rattle.annotator.proofs.order.Statement.{statement}
+use Rattle.annotator.proofs.order.Tie as tie
+use Rattle.annotator.proofs.order.Reads as reads
+use Rattle.annotator.proofs.order.Lts as lts
+use Rattle.annotator.proofs.goal_count.Reads as goal-count-reads
+use Rattle.graph.proofs.Graph.empty.Reads as empty-reads
+use Rattle.order.proofs.order_of.Reads as order-of-reads
+use Rattle.record.proofs.read.Reads as read-reads
+
+-- src/lib.rt:57:11
+read-requires : tie.Need-read-requires
+read-requires c κs = search needs
+
+-- src/lib.rt:59:48
+enum-told : tie.Need-enum-told
+enum-told c = search needs
+
+-- src/lib.rt:59:48
+goal-count-requires : tie.Need-goal-count-requires
+goal-count-requires c κs = search needs
+
+-- src/lib.rt:60:17
+order-of-requires : tie.Need-order-of-requires
+order-of-requires c κs = accepted _ (c .before .before .before .read .ensures) (c .before .enum-told .given .1) .goals-to
+
+-- src/lib.rt:63:26
+enum-known-r : tie.Need-enum-known-r
+enum-known-r c = search needs
+
+-- src/lib.rt:65:17
+empty-requires : tie.Need-empty-requires
+empty-requires c κs = search needs
+
+-- src/lib.rt:53:1
+returns : tie.Need-returns
+returns c = (read-fine _ (c .before .before .before .before .read .ensures) (c .before .before .enum-told .given .1) (c .before .goal-count .ensures), order-fine _ (c .before .before .before .before .read .ensures) (c .before .before .enum-told .given .1) (c .order-of .ensures))
+
+-- src/lib.rt:53:1
+returns-2 : tie.Need-returns-2
+returns-2 c = (read-refused _ _ (c .before .before .before .before .read .ensures) (c .before .before .r .given .1), order-refused _ _ (c .before .before .before .before .read .ensures) (c .before .before .r .given .1) (c .empty .ensures))
+
+pub order-spec : {M : Type 1} → statement M
+order-spec =
+    tie.close
+    (tie.spec
+    read-requires
+    enum-told
+    goal-count-requires
+    order-of-requires
+    enum-known-r
+    empty-requires
+    returns
+    returns-2)

@@ -1,0 +1,65 @@
+-- What the operations of 01 answer. For each: a record of the paper's values, in which every field that the paper leaves open is zero; the definition that
+-- turns each case of the program's answer into these values; and the values that the lent bytes give.
+-- 01: "A refusal returns its number and a place, every other field zero (13 also has its four goals), and changes no lent byte."
+-- Writing the form and the length estimate have theirs in the crate `form`, writing MEL in `mel`.
+use mathlib.Core.Bool.{Bool, _&&_, cond}
+use mathlib.Core.List.{List}
+use Prim.Native.Nat.{ℕ}
+use lib.Dec.{leb}
+use Rattle.graph.specs.Graph.{edgeless}
+use Rattle.graph.specs.declared.Graph.{Graph}
+use Rattle.reading.specs.declared.Reading.{Reading}
+use Rattle.reading.specs.declared.Reading.the-variants.{Fine, Refused as Unread}
+use Rattle.record.specs.Fields.{goalCount, textPlace, textLength}
+use Rattle.record.specs.Reading.{reading}
+use Rattle.order.specs.Order
+use Rattle.annotator.specs.declared.ReadAnswer.{ReadAnswer}
+use Rattle.annotator.specs.declared.ReadAnswer.the-variants.{Accepted, Refused}
+use Rattle.annotator.specs.declared.TextAnswer.{TextAnswer}
+use Rattle.annotator.specs.declared.TextAnswer.the-variants.{At, NoText}
+
+-- 01: "Reading the record, which starts every operation": the reading's refusal, or what follows an accepted record
+abbrev pub afterReading : {A : Type 0} → (ℕ → ℕ → A) → Reading → A → A
+afterReading refused Fine x = x
+afterReading refused (Unread r) x = refused (r .number) (r .place)
+
+-- ---- Reading: the goal count, or a refusal.
+pub record ReadValues : Type 0 where
+  pub number : ℕ
+  pub place : ℕ
+  pub goals : ℕ
+
+abbrev pub noRecord : ℕ → ℕ → ReadValues
+noRecord k p = record { number = k; place = p; goals = 0 }
+
+abbrev pub readValues : ReadAnswer → ReadValues
+readValues (Accepted n) = record { number = 0; place = 0; goals = n }
+readValues (Refused r) = noRecord (r .number) (r .place)
+
+unfoldable pub read : List ℕ → ReadValues
+read b = afterReading noRecord (reading b) (record { number = 0; place = 0; goals = goalCount b })
+
+-- ---- The order: beside the reading's values the closed graph; of a refused record the graph without goals.
+unfoldable pub orderGraph : List ℕ → Graph
+orderGraph b = afterReading (λ k p. edgeless 0) (reading b) (Order.order b)
+
+-- ---- Goal text. 01: "14 goal number outside 1 to n (0). Otherwise the answer is the part of the lent record that holds this goal's text": its place and length.
+pub record TextValues : Type 0 where
+  pub number : ℕ
+  pub place : ℕ
+  pub start : ℕ
+  pub length : ℕ
+
+abbrev pub noText : ℕ → ℕ → TextValues
+noText k p = record { number = k; place = p; start = 0; length = 0 }
+
+abbrev pub textValues : TextAnswer → TextValues
+textValues (At s) = record { number = 0; place = 0; start = s .place; length = s .length }
+textValues (NoText r) = noText (r .number) (r .place)
+
+abbrev pub textOf : List ℕ → ℕ → TextValues
+textOf b g = record { number = 0; place = 0; start = textPlace b g; length = textLength b g }
+
+-- "with any refusal the part is the empty one at the record's start": start and length are 0
+unfoldable pub goalText : List ℕ → ℕ → TextValues
+goalText b g = afterReading noText (reading b) (cond (leb 1 g && leb g (goalCount b)) (textOf b g) (noText 14 0))

@@ -1,0 +1,108 @@
+// The operations of the paper, each from lent bytes to its answer. None has a precondition; each promise fixes the entire answer, refused or not, and every
+// lent byte afterwards (what is lent by `&` cannot change). The definitions stand in specs/Answers.antt, for the form and MEL in the crates `form` and `mel`.
+use graph::Graph;
+use reading::Reading;
+use refusal::Refusal;
+ghost use mathlib.Core.Path.{_≡_};
+ghost use mathlib.Core.Bool.{_&&_};
+ghost use lib.Dec.{leb};
+ghost use Rattle.fields.specs.Fields as F;
+ghost use Rattle.annotator.specs.Answers as W;
+ghost use Rattle.annotator.specs.Part.{PartAt};
+
+// Reading: the goal count, or refusal 1 to 11.
+pub enum ReadAnswer {
+    Accepted(usize),
+    Refused(Refusal),
+}
+
+// The order: beside the reading's answer the closed graph; of a refused record the graph without goals.
+pub struct OrderAnswer {
+    pub reading: ReadAnswer,
+    pub graph: Graph,
+}
+
+// Where a goal's text stands in the record.
+pub struct Span {
+    pub place: usize,
+    pub length: usize,
+}
+
+pub enum TextAnswer {
+    At(Span),
+    NoText(Refusal),
+}
+
+fn goal_count(bytes: &[u8]) -> usize
+    ensures { λ r. ⌜ r ≡ F.goalCount (now (bytes .entry)) ⌝ }
+{
+    fields::size_of(fields::byte(bytes, 5))
+}
+
+// Reads a record.
+pub fn read(bytes: &[u8]) -> ReadAnswer
+    ensures { λ r. ⌜ W.readValues r ≡ W.read (now (bytes .entry)) ⌝ }
+{
+    match record::read(bytes) {
+        Reading::Fine => ReadAnswer::Accepted(goal_count(bytes)),
+        Reading::Refused(r) => ReadAnswer::Refused(r),
+    }
+}
+
+// The order of a record's goals.
+pub fn order(bytes: &[u8]) -> OrderAnswer
+    ensures { λ r. ⌜ W.readValues (r .reading) ≡ W.read (now (bytes .entry)) ⌝ }
+    ensures { λ r. ⌜ r .graph ≡ W.orderGraph (now (bytes .entry)) ⌝ }
+{
+    match record::read(bytes) {
+        Reading::Fine => {
+            let reading = ReadAnswer::Accepted(goal_count(bytes));
+            let graph = order::order_of(bytes);
+            OrderAnswer { reading, graph }
+        }
+        Reading::Refused(r) => {
+            let reading = ReadAnswer::Refused(r);
+            let graph = Graph::empty(0);
+            OrderAnswer { reading, graph }
+        }
+    }
+}
+
+// Whether g is from 1 to n.
+fn inside(g: usize, n: usize) -> bool
+    ensures { λ r. ⌜ r ≡ (leb 1 g && leb g n) ⌝ }
+{
+    (1 <= g) & (g <= n)
+}
+
+// Where the text of a goal stands, or why there is none.
+pub fn find_text(bytes: &[u8], goal: u32) -> TextAnswer
+    ensures { λ r. ⌜ W.textValues r ≡ W.goalText (now (bytes .entry)) goal ⌝ }
+{
+    match record::read(bytes) {
+        Reading::Refused(r) => TextAnswer::NoText(r),
+        Reading::Fine => {
+            let g = goal as usize;
+            if inside(g, goal_count(bytes)) {
+                let place = fields::text_place(bytes, g);
+                let length = fields::text_length(bytes, g);
+                return TextAnswer::At(Span { place, length });
+            }
+            TextAnswer::NoText(Refusal { number: 14, place: 0 })
+        }
+    }
+}
+
+// The text of a goal, as the part of the lent record that holds it; with any refusal the empty part at the record's start.
+pub fn goal_text(bytes: &[u8], goal: u32) -> &[u8]
+    ensures { λ r. ⌜ PartAt (bytes .entry) (W.goalText (now (bytes .entry)) goal .start) (W.goalText (now (bytes .entry)) goal .length) r ⌝ }
+{
+    match find_text(bytes, goal) {
+        TextAnswer::At(s) => {
+            let a = s.place;
+            let e = a + s.length;
+            &bytes[a..e]
+        }
+        TextAnswer::NoText(_) => &bytes[0..0],
+    }
+}
