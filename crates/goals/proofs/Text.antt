@@ -1,12 +1,17 @@
 -- The first bad byte of a text, as a loop looks for it. Assumes nothing.
 use mathlib.Core.Path.{_≡_, refl, sym, ap, _∙_}
-use mathlib.Core.Bool.{Bool, true, false, cond}
+use mathlib.Core.Logic.{⊎-elim}
+use mathlib.Core.Bool.{Bool, true, false, _&&_, cond}
 use mathlib.Core.List.{List}
-use Prim.Native.Nat.{ℕ, suc, _+_, _-_, _<_}
+use Prim.Native.Nat.{ℕ, zero, suc, _+_, _-_, _<_}
+use native.Mathlib.Nat.{eq-or-lt-of-le, le-of-suc-le-suc, not-suc-le-zero}
 use native.Mathlib.Numerals.{add-one}
 use native.Mathlib.Omega.{arith}
 use Rattle.fields.specs.Fields.{byte}
+use Rattle.logic.proofs.Bools.{and-l, and-r}
 use Rattle.reading.specs.Reading.{between, firstBad}
+use Rattle.reading.proofs.Text.{good-text}
+use Rattle.goals.specs.Text.{clean}
 
 module _ (b : List ℕ) where
   ahead : (at end : ℕ) → at < end → end - at ≡ suc (end - (at + 1))
@@ -23,3 +28,23 @@ module _ (b : List ℕ) where
   pub bad-none : (at end : ℕ) → at ≡ end → firstBad b at (end - at) ≡ at
   unfolding firstBad
   bad-none at end e = let z : end - at ≡ 0 = omega arith in ap (λ (k : ℕ). firstBad b at k) z
+
+  -- ---- a clean text has no bad byte
+
+  pub clean-zero : (from : ℕ) → true ≡ clean b from 0
+  unfolding clean
+  clean-zero from = refl
+
+  pub clean-more : (from k : ℕ) → clean b from (k + 1) ≡ clean b from k && between 33 126 (byte b (from + k))
+  unfolding clean
+  clean-more from k = rw add-one
+
+  clean-out : (from k : ℕ) → clean b from k ≡ true → (i : ℕ) → i < k → between 33 126 (byte b (from + i)) ≡ true
+  unfolding clean
+  clean-out from zero e i h = absurd (not-suc-le-zero h)
+  clean-out from (suc k) e i h =
+      ⊎-elim (λ q. ap (λ (x : ℕ). between 33 126 (byte b (from + x))) q ∙ and-r (clean b from k) (between 33 126 (byte b (from + k))) e)
+      (λ l. clean-out from k (and-l (clean b from k) (between 33 126 (byte b (from + k))) e) i l) (eq-or-lt-of-le (le-of-suc-le-suc h))
+
+  pub clean-none : (from k : ℕ) → clean b from k ≡ true → from + k ≡ firstBad b from k
+  clean-none from k e = sym (good-text b k from (clean-out from k e))

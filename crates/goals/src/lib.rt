@@ -3,7 +3,9 @@ use reading::Reading;
 ghost use mathlib.Core.Path.{_≡_};
 ghost use Prim.Native.Nat.{_+_, _<_, _≤_, _^_};
 ghost use Rattle.fields.specs.Fields as F;
+ghost use lib.ListN.{length};
 ghost use Rattle.reading.specs.Reading as R;
+ghost use Rattle.goals.specs.Text as T;
 
 fn text_byte(x: u8) -> bool
     ensures { λ r. ⌜ r ≡ R.between 33 126 x ⌝ }
@@ -11,8 +13,22 @@ fn text_byte(x: u8) -> bool
     (33 <= x) & (x <= 126)
 }
 
+// Whether each of the k bytes from `from` on is a text byte.
+fn clean(b: &[u8], from: usize, k: usize) -> bool
+    requires { ⌜ from + k ≤ length (now b) ⌝ }
+    ensures { λ r. ⌜ r ≡ T.clean (now (b .entry)) from k ⌝ }
+{
+    let mut ok = true;
+    let mut i: usize = 0;
+    while i < k {
+        ok = ok & text_byte(b[from + i]);
+        i += 1;
+    }
+    ok
+}
+
 // The first of the k bytes from `from` on that is no text byte, or the place after them.
-fn first_bad(b: &[u8], from: usize, k: usize) -> usize
+fn find_bad(b: &[u8], from: usize, k: usize) -> usize
     requires { ⌜ from + k < 2 ^ 64 ⌝ }
     ensures { λ r. ⌜ r ≡ R.firstBad (now (b .entry)) from k ⌝ }
 {
@@ -26,6 +42,19 @@ fn first_bad(b: &[u8], from: usize, k: usize) -> usize
         }
     }
     at
+}
+
+// The same, without a search where all are text bytes.
+fn first_bad(b: &[u8], from: usize, k: usize) -> usize
+    requires { ⌜ from + k < 2 ^ 64 ⌝ }
+    ensures { λ r. ⌜ r ≡ R.firstBad (now (b .entry)) from k ⌝ }
+{
+    if from + k <= b.len() {
+        if clean(b, from, k) {
+            return from + k;
+        }
+    }
+    find_bad(b, from, k)
 }
 
 // Checks the goal that starts at `at`, with k text bytes.

@@ -2,17 +2,19 @@
 use mathlib.Core.Path.{_≡_, refl, sym, ap, _∙_}
 use mathlib.Core.Bool.{Bool, true, false, _&&_}
 use mathlib.Core.List.{List}
-use Prim.Native.Nat.{ℕ, zero, suc, _+_, _*_, _<_}
+use Prim.Native.Nat.{ℕ, zero, suc, _+_, _*_, _≤_, _<_}
 use native.Mathlib.Numerals.{add-one}
 use native.Mathlib.Omega.{arith}
 use lib.Dec.{ltb, leb}
 use lib.ListN.{length}
-use borrow.Author.Tests.{lt-ltb, ltb-true}
-use Rattle.logic.proofs.Bools.{and-l}
+use borrow.Author.Tests.{lt-ltb, ltb-true, le-leb}
+use Rattle.logic.proofs.Bools.{and-l, and-r}
 use Rattle.fields.specs.Fields.{byte, number, varCount, pairsPlace, pairAt}
 use Rattle.fields.proofs.Digits.{number-two}
 use Rattle.reading.specs.declared.Reading.{Reading}
 use Rattle.reading.specs.Reading.{_must_else_place_, pair, pairs, ordered, ascends}
+use Rattle.reading.proofs.Must.{must-so}
+use Rattle.pairs.specs.Order.{inOrder}
 
 module _ (b : List ℕ) where
   pub pairs-zero : (s : Reading) → s ≡ pairs b 0 s
@@ -32,9 +34,12 @@ module _ (b : List ℕ) where
   unfolding last
   last-zero = refl
 
-  pub last-more : (k : ℕ) → last (k + 1) ≡ byte b (pairAt b k) * 256 + byte b (pairAt b k + 1)
+  last-more : (k : ℕ) → last (k + 1) ≡ byte b (pairAt b k) * 256 + byte b (pairAt b k + 1)
   unfolding last
   last-more k = rw add-one (number-two b (pairAt b k))
+
+  pub last-turn : (from low high k : ℕ) → from ≡ pairsPlace b → low ≡ byte b (from + 2 * k) → high ≡ byte b (from + 2 * k + 1) → low * 256 + high ≡ last (k + 1)
+  last-turn from low high k ef el eh = cc (last-more k)
 
   and-true : (p q : Bool) → (p ≡ true → q ≡ true) → p && q ≡ p && true
   and-true true q h = h refl
@@ -64,3 +69,25 @@ module _ (b : List ℕ) where
   unfolding pair
   pair-more from v low high before k s t r r₂ ef ev el eh eb et er e =
       cc (pairs-more k s, in-turn k)
+
+  -- ---- all in order
+
+  pub order-zero : true ≡ inOrder b 0
+  unfolding inOrder
+  order-zero = refl
+
+  order-suc : (k : ℕ) → inOrder b (k + 1) ≡ inOrder b k && (ordered b (pairAt b k) && ascends b k)
+  unfolding inOrder
+  order-suc k = rw add-one
+
+  pub order-more : (from v low high before k : ℕ) (ok : Bool) → from ≡ pairsPlace b → v ≡ varCount b → low ≡ byte b (from + 2 * k)
+      → high ≡ byte b (from + 2 * k + 1) → before ≡ last k → ok ≡ inOrder b k
+      → ok && ((ltb low high && ltb high v) && ltb before (low * 256 + high)) ≡ inOrder b (k + 1)
+  order-more from v low high before k ok ef ev el eh eb eo = cc (order-suc k, in-turn k)
+
+  pub order-none : (p : ℕ) (s : Reading) → pairsPlace b + 2 * p ≤ length b → inOrder b p ≡ true → s ≡ pairs b p s
+  unfolding inOrder pairs pair
+  order-none zero s h e = refl
+  order-none (suc p) s h e =
+      order-none p s (omega arith) (and-l (inOrder b p) (ordered b (pairAt b p) && ascends b p) e)
+      ∙ sym (must-so _ _ _ _ (and-r (inOrder b p) (ordered b (pairAt b p) && ascends b p) e) ∙ must-so _ _ _ _ (le-leb (pairAt b p + 2) (length b) (omega arith)))

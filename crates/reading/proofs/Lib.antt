@@ -1,1 +1,2 @@
 pub mod Must
+pub mod Text

@@ -16,6 +16,7 @@ use Rattle.fields.specs.Fields.{byte, number, set, mark, version, goalCount, va
 use Rattle.reading.specs.declared.Reading.{Reading}
 use Rattle.reading.specs.declared.Reading.the-variants.{Fine, Refused}
 use Rattle.reading.specs.Reading.{_must_else_place_, between, counts, header, textLimit, firstBad, badText, goal, goals, ordered, ascends, pair, pairs, ending, readingOf, versionOne, reading}
+use Rattle.reading.proofs.Text.{text-good, good-text}
 use Rattle.reading.proofs.Must.{must-so, must-fine, must-holds, between-low, between-high, between-in}
 use Rattle.record.specs.WellFormed.{NoBitFrom, WellFormedGoal, WellFormedPair, WellFormed}
 
@@ -26,33 +27,6 @@ bits-within : (v m : ℕ) → NoBitFrom v m → within v m ≡ true
 bits-within v m h = lt-within v m (below-of v m h)
 
 module _ (b : List ℕ) where
-  -- ---- the text
-
-  text-good : (k at : ℕ) → firstBad b at k ≡ at + k → (i : ℕ) → i < k → between 33 126 (byte b (at + i)) ≡ true
-  unfolding firstBad
-  text-good zero at e i h = absurd (not-suc-le-zero h)
-  text-good (suc k) at e i h = go (λ q j l. text-good k (suc at) q j l) (between 33 126 (byte b at)) refl e i h
-    where
-      go : (firstBad b (suc at) k ≡ suc at + k → (i : ℕ) → i < k → between 33 126 (byte b (suc at + i)) ≡ true) → (t : Bool) → between 33 126 (byte b at) ≡ t → cond t (firstBad b (suc at) k) at ≡ at + suc k
-          → (i : ℕ) → i < suc k → between 33 126 (byte b (at + i)) ≡ true
-      go r true q e zero h = let z : at + 0 ≡ at = omega arith in ap (λ (x : ℕ). between 33 126 (byte b x)) z ∙ q
-      go r true q e (suc i) h =
-          let z : at + suc i ≡ suc at + i = omega arith in
-          let s : at + suc k ≡ suc at + k = omega arith in
-          ap (λ (x : ℕ). between 33 126 (byte b x)) z ∙ r (e ∙ s) i (le-of-suc-le-suc h)
-      go r false q e i h = absurd (omega arith)
-
-  good-text : (k at : ℕ) → ((i : ℕ) → i < k → between 33 126 (byte b (at + i)) ≡ true) → firstBad b at k ≡ at + k
-  unfolding firstBad
-  good-text zero at h = omega arith
-  good-text (suc k) at h =
-      let z : at + 0 ≡ at = omega arith in
-      let s : suc at + k ≡ at + suc k = omega arith in
-      ap (λ (t : Bool). cond t (firstBad b (suc at) k) at) (ap (λ (x : ℕ). between 33 126 (byte b x)) (sym z) ∙ h 0 (omega arith))
-      ∙ good-text k (suc at)
-      (λ i l. let e : suc at + i ≡ at + suc i = omega arith in ap (λ (x : ℕ). between 33 126 (byte b x)) e ∙ h (suc i) (omega arith))
-      ∙ s
-
   -- ---- the goals
 
   module _ (at : ℕ) where
@@ -68,7 +42,7 @@ module _ (b : List ℕ) where
         let e2 = must-fine _ _ _ _ e3 in
         let e1 = must-fine _ _ _ _ e2 in
         let k = must-holds _ _ _ _ e3 in
-        let text = text-good (textLengthAt b at) (textAt b at) (eqb-true _ _ (must-holds _ _ _ _ e)) in
+        let text = text-good b (textLengthAt b at) (textAt b at) (eqb-true _ _ (must-holds _ _ _ _ e)) in
         record {
           fixed-whole = leb-true _ _ (must-holds _ _ _ _ e1);
           set-below = no-bit (varCount b) (set b at) (must-holds _ _ _ _ e2);
@@ -83,7 +57,7 @@ module _ (b : List ℕ) where
     unfolding goal
     goal-in s w =
         must-so _ _ _ _
-        (eq-eqb _ _ (good-text (textLengthAt b at) (textAt b at) (λ i h. between-in 33 126 _ (w .text-from i h) (w .text-to i h))))
+        (eq-eqb _ _ (good-text b (textLengthAt b at) (textAt b at) (λ i h. between-in 33 126 _ (w .text-from i h) (w .text-to i h))))
         ∙ must-so _ _ _ _ (le-leb _ _ (w .text-whole)) ∙ must-so _ _ _ _ (between-in 1 textLimit (textLengthAt b at) (w .length-from) (w .length-to))
         ∙ must-so _ _ _ _ (bits-within (varCount b) (set b at) (w .set-below)) ∙ must-so _ _ _ _ (le-leb _ _ (w .fixed-whole))
 
