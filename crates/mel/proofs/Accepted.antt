@@ -2,16 +2,14 @@
 use mathlib.Core.Path.{_≡_, refl, sym, ap, _∙_}
 use mathlib.Core.Bool.{Bool, true, false, _&&_}
 use mathlib.Core.List.{List}
-use Prim.Native.Nat.{ℕ, zero, suc, _+_, _≤_}
-use lib.Dec.{leb, eqb}
-use lib.ListN.{length}
+use Prim.Native.Nat.{ℕ, zero, suc, _≤_}
+use lib.Dec.{leb}
 use borrow.Author.Tests.{leb-true}
 use Rattle.logic.proofs.Bools.{and-l, and-r}
-use Rattle.sets.specs.Sets.{within, subset}
 use Rattle.reading.specs.declared.Reading.{Reading}
 use Rattle.reading.specs.declared.Reading.the-variants.{Fine, Refused}
-use Rattle.record.specs.Fields.{goalCount, varCount, pairCount, headSet, groundSet, set, textAt, textLengthAt, lengthAt, goalEnd, placeAfter, pairAt, mark, version}
-use Rattle.record.specs.Reading.{_must_else_place_, between, counts, head, ground, header, textLimit, badText, goal, goals, ordered, ascends, pair, pairs, ending, readingOf, reading, versionOne}
+use Rattle.fields.specs.Fields.{goalCount, pairCount, placeAfter}
+use Rattle.reading.specs.Reading.{_must_else_place_, between, counts, header, goal, goals, pair, pairs, ending, readingOf, reading, versionOne}
 
 fine : Reading → Bool
 fine Fine = true

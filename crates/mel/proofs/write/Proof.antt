@@ -1,14 +1,13 @@
-use Prim.Native.Nat.{ℕ, zero, suc, _≤_, _<_, _*_, _+_, _-_, _^_, _%_, _/_}
-use mathlib.Core.Path.{_≡_, refl, ap, ap₂, _∙_, sym, subst}
-use mathlib.Core.Bool.{Bool, true, false, not, _&&_, _||_, cond}
-use mathlib.Core.List.{List, [], _∷_, _++_, map}
+use Prim.Native.Nat.{ℕ}
+use mathlib.Core.Path.{_≡_, ap, _∙_, sym}
+use mathlib.Core.List.{List}
 use native.Mathlib.Omega.{arith}
 use denote.Ref.{now}
-use lib.ListN.{length, length-append}
+use lib.ListN.{length}
 use borrow.Author.Needs.{needs}
 use Rattle.reading.specs.declared.Reading.the-variants.{Fine}
-use Rattle.record.specs.Fields.{goalCount}
-use Rattle.record.specs.Reading.{reading}
+use Rattle.fields.specs.Fields.{goalCount}
+use Rattle.reading.specs.Reading.{reading}
 use lib.ListN.{take}
 use Rattle.text.specs.Lent.{stored}
 use Rattle.mel.specs.Annotation.{answerTo}
@@ -17,11 +16,6 @@ use Rattle.mel.proofs.Record.{clause-text, clause-length, clause-count,
 use Rattle.mel.proofs.Answers.{refused-values, refused-buffer, fine-values, fine-buffer}
 use Rattle.mel.proofs.write.Statement.{statement}
 use Rattle.mel.proofs.write.Tie as tie
-use Rattle.mel.proofs.write.Reads as reads
-use Rattle.mel.proofs.write.Lts as lts
-use Rattle.clause.proofs.decode.Reads as decode-reads
-use Rattle.mel.proofs.write_clause.Reads as write-clause-reads
-use Rattle.record.proofs.read.Reads as read-reads
 
 -- the record was read without a refusal; its clause has its goals
 fine : (c : tie.After-enum-told) → reading (now (c .before .before .before .before .before .args .b)) ≡ Fine
@@ -79,13 +73,14 @@ same-length c = search needs
 
 -- src/lib.rt:247:1
 returns-2 : tie.Need-returns-2
-returns-2 c = 
+returns-2 c =
     let d = c .before .before .before .before .before .before .before .before .before in
     let out = now (c .before .before .before .before .before .before .before .before .before .before .before .before .before .before .before .args .out) in
     let text = clause-text _ (goal-count _ (fine (c .before .before .before .before .before .before .before .before .before .before)) .1) _ (d .decode .ensures) in
-    let wrote = c .before .before .write-clause .ensures in
-    (wrote .0 ∙ ap (λ (t : List ℕ). answerTo t out) text ∙ fine-values _ _ (fine (c .before .before .before .before .before .before .before .before .before .before)),
-    wrote .1 ∙ ap (λ (t : List ℕ). stored t out) text ∙ fine-buffer _ _ (fine (c .before .before .before .before .before .before .before .before .before .before)))
+    let wrote = c .before .before .write-clause .ensures in (
+      wrote .0 ∙ ap (λ (t : List ℕ). answerTo t out) text ∙ fine-values _ _ (fine (c .before .before .before .before .before .before .before .before .before .before)),
+      wrote .1 ∙ ap (λ (t : List ℕ). stored t out) text ∙ fine-buffer _ _ (fine (c .before .before .before .before .before .before .before .before .before .before)),
+    )
 
 pub write-spec : {M : Type 1} → statement M
 write-spec =

@@ -1,7 +1,6 @@
 use Prim.Native.Nat.{_≤_, _-_}
 use mathlib.Core.Path.{_≡_, sym}
 use native.Mathlib.Omega.{arith}
-use denote.Ref.{now}
 use Rattle.stages.specs.Masks as M
 use Rattle.stages.proofs.Masks.{once-none, once-more, twice-none, twice-more}
 use Rattle.stages.proofs.counted.Statement.{statement}
