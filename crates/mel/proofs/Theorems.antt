@@ -8,6 +8,8 @@ use native.Mathlib.Omega.{arith}
 use lib.ListN.{length, drop}
 use Rattle.reading.specs.declared.Reading.the-variants.{Fine}
 use Rattle.reading.specs.Reading.{reading}
+use Rattle.record.specs.WellFormed.{WellFormed}
+use Rattle.record.proofs.WellFormed.{well-formed-fine}
 use Rattle.stages.specs.Mel.{Clause, Ground, Indep, goalsFrom, stages, checks}
 use Rattle.stages.specs.Plain.{All, Among, goalsOf, Sound, Grounded, Separate, Ascending}
 use Rattle.stages.proofs.Stages.{partition, stages-sound}
@@ -41,8 +43,11 @@ module _ (c : Clause) (p q : ℕ) where
   pub checks-ascending : Ascending (checks c p q)
   checks-ascending = checks-ascend c p q
 
--- The length named by 12 is the text's: a shorter buffer is refused with it and stays as it was, and a buffer of that length or more begins with the text.
-module _ (b buf : List ℕ) (e : reading b ≡ Fine) where
+-- The length named by 12 is the text's. For every well-formed record a shorter buffer is refused with it and stays as it was, and a buffer of that length or more begins with the text.
+module _ (b buf : List ℕ) (w : WellFormed b) where
+  e : reading b ≡ Fine
+  e = well-formed-fine b w
+
   pub length-named : length buf < length (mel b) → (melAnswer b buf ≡ refused 12 (length (mel b))) × (melBuffer b buf ≡ buf)
   unfolding answerTo
   length-named h = (sym (fine-values b buf e) ∙ rw (fits-lt (mel b) buf h), sym (fine-buffer b buf e) ∙ sym (keeps (mel b) buf h))

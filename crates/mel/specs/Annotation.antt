@@ -14,7 +14,7 @@ use Rattle.mel.specs.declared.Written.{Written}
 use Rattle.mel.specs.declared.Written.the-variants as W
 
 -- What the annotation reads of a record. 01: "Its facts are taken to hold at every goal"; "Two variables are known independent if their pair is listed or
--- either is ground". The facts at goal g are those of the stage whose first goal it is.
+-- either is ground"; no variable is known independent of every other. The facts at goal g are those of the stage whose first goal it is.
 unfoldable pub clauseOf : List ℕ → Clause
 clauseOf b =
     record {
