@@ -1,18 +1,16 @@
 -- The answers of the operation. Assumes nothing.
-use mathlib.Core.Path.{_≡_, refl, sym, ap, _∙_}
-use mathlib.Core.Bool.{Bool, true, false, cond}
+use mathlib.Core.Path.{_≡_, sym, ap}
 use mathlib.Core.List.{List}
-use Prim.Native.Nat.{ℕ, _+_, _≤_, _<_}
+use Prim.Native.Nat.{ℕ, _≤_, _<_}
 use native.Mathlib.Omega.{arith}
 use lib.ListN.{length}
 use Rattle.reading.specs.declared.Reading.{Reading}
 use Rattle.reading.specs.declared.Reading.the-variants.{Fine, Refused}
 use Rattle.refusal.specs.declared.Refusal.{Refusal}
-use Rattle.record.specs.Reading.{reading}
+use Rattle.reading.specs.Reading.{reading}
 use Rattle.text.specs.Lent.{stored}
 use Rattle.text.proofs.Lent.{fits-le, fits-lt}
-use Rattle.mel.specs.Annotation.{Values, refused, done, values, answerTo, answer, after, mel, melAnswer, melBuffer}
-use Rattle.mel.specs.declared.Written.{Written}
+use Rattle.mel.specs.Annotation.{refused, done, values, answerTo, answer, after, mel, melAnswer, melBuffer}
 use Rattle.mel.specs.declared.Written.the-variants as W
 
 -- the buffer is too short

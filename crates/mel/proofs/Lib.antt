@@ -3,5 +3,4 @@ pub mod Whole
 pub mod Length
 pub mod Theorems
 pub mod Answers
-pub mod Accepted
 pub mod Record

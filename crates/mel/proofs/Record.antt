@@ -1,14 +1,14 @@
 -- The record's clause, and the sets that the code is given, have one annotation. Assumes nothing.
 use mathlib.Core.Path.{_≡_, refl, sym, ap, ap₂, _∙_}
 use mathlib.Core.Bool.{Bool, true, false, _||_, cond, or-false}
-use mathlib.Core.List.{List, [], _∷_, map}
+use mathlib.Core.List.{List, _∷_, map}
 use Prim.Native.Nat.{ℕ, zero, suc, _+_, _-_, _<_, _≤_}
 use native.Mathlib.Nat.{le-of-suc-le-suc, not-suc-le-zero}
 use native.Mathlib.Omega.{arith}
 use lib.Dec.{ltb}
 use lib.ListN.{length, take, getD, replicate, getD-replicate, length-map}
 use borrow.Author.Tests.{lt-ltb}
-use Rattle.arrays.specs.Table.{tableFrom, table}
+use Rattle.arrays.specs.Table.{tableFrom}
 use Rattle.arrays.proofs.Table.{table-at, table-length}
 use Rattle.sets.specs.Sets.{has, setOf}
 use Rattle.sets.proofs.Laws.{has-empty}
@@ -16,7 +16,7 @@ use Rattle.sets.proofs.Builder.{has-setOf-in}
 use Rattle.judge.specs.Independence.{knownIndependent}
 use Rattle.clause.specs.declared.Clause as D
 use Rattle.clause.specs.Clause.{goalSets, pairRows, clause}
-use Rattle.record.specs.Fields.{goalCount, headSet, groundSet, goalSet, listed}
+use Rattle.fields.specs.Fields.{goalCount, headSet, groundSet, goalSet, listed}
 use Rattle.stages.specs.Mel.{Clause, goal, goalsFrom}
 use Rattle.stages.specs.Masks.{given}
 use Rattle.stages.proofs.Same.{mel-same}

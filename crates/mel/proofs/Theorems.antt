@@ -1,13 +1,22 @@
--- T10: what the definition of the annotation gives, in the words of `Plain` of crate stages. For any width, any clause and any number of goals.
+-- T10: what the definition of the annotation gives, in the words of `Plain` of crate stages. For any width, any clause and any number of goals; at the end of the operation on a record.
 -- Assumes nothing.
-use mathlib.Core.Path.{_≡_}
+use mathlib.Core.Path.{_≡_, sym, _∙_}
 use mathlib.Core.Logic.{_↔_}
-use mathlib.Core.List.{List}
-use Prim.Native.Nat.{ℕ, _<_}
+use mathlib.Core.List.{List, _++_}
+use Prim.Native.Nat.{ℕ, _<_, _≤_}
 use native.Mathlib.Omega.{arith}
+use lib.ListN.{length, drop}
+use Rattle.reading.specs.declared.Reading.the-variants.{Fine}
+use Rattle.reading.specs.Reading.{reading}
+use Rattle.record.specs.WellFormed.{WellFormed}
+use Rattle.record.proofs.WellFormed.{well-formed-fine}
 use Rattle.stages.specs.Mel.{Clause, Ground, Indep, goalsFrom, stages, checks}
 use Rattle.stages.specs.Plain.{All, Among, goalsOf, Sound, Grounded, Separate, Ascending}
 use Rattle.stages.proofs.Stages.{partition, stages-sound}
+use Rattle.text.specs.Lent.{stored}
+use Rattle.text.proofs.Lent.{fits-le, fits-lt, keeps}
+use Rattle.mel.specs.Annotation.{mel, refused, done, answerTo, melAnswer, melBuffer}
+use Rattle.mel.proofs.Answers.{fine-values, fine-buffer}
 use Rattle.stages.proofs.Checks.{grounds-listed, listed-grounds, indeps-listed, listed-indeps, checks-ascend}
 
 module _ (w head : ℕ) (sets : List ℕ) (n : ℕ) where
@@ -33,3 +42,16 @@ module _ (c : Clause) (p q : ℕ) where
   -- and they stand in ascending order, the ground checks first, none twice.
   pub checks-ascending : Ascending (checks c p q)
   checks-ascending = checks-ascend c p q
+
+-- The length named by 12 is the text's. For every well-formed record a shorter buffer is refused with it and stays as it was, and a buffer of that length or more begins with the text.
+module _ (b buf : List ℕ) (w : WellFormed b) where
+  e : reading b ≡ Fine
+  e = well-formed-fine b w
+
+  pub length-named : length buf < length (mel b) → (melAnswer b buf ≡ refused 12 (length (mel b))) × (melBuffer b buf ≡ buf)
+  unfolding answerTo
+  length-named h = (sym (fine-values b buf e) ∙ rw (fits-lt (mel b) buf h), sym (fine-buffer b buf e) ∙ sym (keeps (mel b) buf h))
+
+  pub length-enough : length (mel b) ≤ length buf → (melAnswer b buf ≡ done (length (mel b))) × (melBuffer b buf ≡ mel b ++ drop (length (mel b)) buf)
+  unfolding answerTo stored
+  length-enough h = (sym (fine-values b buf e) ∙ rw (fits-le (mel b) buf h), sym (fine-buffer b buf e) ∙ rw (fits-le (mel b) buf h))

@@ -1,21 +1,20 @@
 -- The MEL annotation of a clause record, and the operation that writes it (01, "The MEL annotation", "What each operation turns down").
-use mathlib.Core.Bool.{Bool, cond}
+use mathlib.Core.Bool.{cond}
 use mathlib.Core.List.{List, map}
 use Prim.Native.Nat.{ℕ}
 use lib.ListN.{length}
 use Rattle.judge.specs.Independence.{knownIndependent}
-use Rattle.record.specs.Fields.{goalCount, headSet, groundSet, goalSet, listed}
-use Rattle.record.specs.Reading.{reading}
+use Rattle.fields.specs.Fields.{goalCount, headSet, groundSet, goalSet, listed}
+use Rattle.reading.specs.Reading.{reading}
 use Rattle.reading.specs.declared.Reading.{Reading}
 use Rattle.reading.specs.declared.Reading.the-variants.{Fine, Refused}
-use Rattle.refusal.specs.declared.Refusal.{Refusal}
 use Rattle.stages.specs.Mel.{Clause, goalsFrom, melText}
 use Rattle.text.specs.Lent.{fits, stored}
 use Rattle.mel.specs.declared.Written.{Written}
 use Rattle.mel.specs.declared.Written.the-variants as W
 
 -- What the annotation reads of a record. 01: "Its facts are taken to hold at every goal"; "Two variables are known independent if their pair is listed or
--- either is ground". The facts at goal g are those of the stage whose first goal it is.
+-- either is ground"; no variable is known independent of every other. The facts at goal g are those of the stage whose first goal it is.
 unfoldable pub clauseOf : List ℕ → Clause
 clauseOf b =
     record {

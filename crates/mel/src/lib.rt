@@ -3,7 +3,7 @@ ghost use mathlib.Core.Path.{_≡_};
 ghost use mathlib.Core.Bool.{true, false};
 ghost use Prim.Native.Nat.{ℕ, _+_, _^_, _<_, _≤_};
 ghost use lib.ListN.{length};
-use record::Reading;
+use reading::Reading;
 use refusal::Refusal;
 ghost use Rattle.text.specs.Text.{Wrote};
 ghost use Rattle.text.specs.Lent.{stored};
@@ -219,16 +219,12 @@ pub enum Written {
 // Writes the annotation of a clause of 1 to 32 goals, or refuses with 12 and the length needed.
 fn write_clause(out: &mut [u8], head: u64, sets: &[u64], grounds: &[u64], rows: &[u64]) -> Written
     requires { ⌜ (0 < length (now sets)) × (length (now sets) ≤ 32) ⌝ }
-    ensures {
-        λ r.
-          ⌜ N.values r
-          ≡ N.answerTo (X.melText head (now (sets .entry)) (now (grounds .entry)) (now (rows .entry))) (now (out .entry)) ⌝
-    }
-    ensures {
-        λ r.
-          ⌜ now (out .exit)
-          ≡ stored (X.melText head (now (sets .entry)) (now (grounds .entry)) (now (rows .entry))) (now (out .entry)) ⌝
-    }
+    ensures { λ r.
+        ⌜ N.values r
+        ≡ N.answerTo (X.melText head (now (sets .entry)) (now (grounds .entry)) (now (rows .entry))) (now (out .entry)) ⌝ }
+    ensures { λ r.
+        ⌜ now (out .exit)
+        ≡ stored (X.melText head (now (sets .entry)) (now (grounds .entry)) (now (rows .entry))) (now (out .entry)) ⌝ }
 {
     let n = sets.len();
     let b = stages::up_to(sets);
@@ -237,7 +233,10 @@ fn write_clause(out: &mut [u8], head: u64, sets: &[u64], grounds: &[u64], rows: 
     let need = put_stages(&mut nowhere, 0, head, sets, &before, grounds, rows, n);
     let room = out.len();
     if room < need {
-        return Written::Refused(Refusal { number: 12, place: need });
+        return Written::Refused(Refusal {
+            number: 12,
+            place: need,
+        });
     }
     put_stages(out, 0, head, sets, &before, grounds, rows, n);
     Written::Done(need)

@@ -1,5 +1,5 @@
 -- The sets of specs/Masks.antt have the members that specs/Mel.antt names. Assumes nothing.
-use mathlib.Core.Path.{_≡_, refl, sym, ap, _∙_}
+use mathlib.Core.Path.{_≡_, refl, sym, ap, _∙_, ap₂}
 use mathlib.Core.Logic.{⊎-elim}
 use mathlib.Core.Bool.{Bool, true, false, _&&_, _||_, cond, false≢true, or-false}
 use mathlib.Core.List.{List}
@@ -97,13 +97,13 @@ module _ (sets : List ℕ) (p : ℕ) where
   pub twice-none : 0 ≡ twice sets p p
   twice-none = sym (none-empty (twice sets p p) (λ x. has-twice p x ∙ is-false (shared sets p p x) (λ e. let w = shared-out sets p p x e in absurd (omega (arith, w .above, w .order, w .upto)))))
 
-  pub once-more : (g : ℕ) → p ≤ g → once sets p (g + 1) ≡ union (once sets p g) (goal sets (g + 1))
+  pub once-more : (g m s : ℕ) → p ≤ g → m ≡ once sets p g → s ≡ goal sets (g + 1) → union m s ≡ once sets p (g + 1)
   unfolding once
-  once-more g h = rw (add-one g, lt-ltb p (suc g) (suc-le-suc h))
+  once-more g m s h e f = ap₂ union e f ∙ rw (add-one g, lt-ltb p (suc g) (suc-le-suc h))
 
-  pub twice-more : (g : ℕ) → p ≤ g → twice sets p (g + 1) ≡ union (twice sets p g) (meet (once sets p g) (goal sets (g + 1)))
+  pub twice-more : (g m t s : ℕ) → p ≤ g → m ≡ once sets p g → t ≡ twice sets p g → s ≡ goal sets (g + 1) → union t (meet m s) ≡ twice sets p (g + 1)
   unfolding twice
-  twice-more g h = rw (add-one g, lt-ltb p (suc g) (suc-le-suc h))
+  twice-more g m t s h e f i = ap₂ union f (ap₂ meet e i) ∙ rw (add-one g, lt-ltb p (suc g) (suc-le-suc h))
 
 -- ---- the variables of goals 1 to g, for each g
 

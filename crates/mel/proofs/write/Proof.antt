@@ -1,27 +1,21 @@
-use Prim.Native.Nat.{ℕ, zero, suc, _≤_, _<_, _*_, _+_, _-_, _^_, _%_, _/_}
-use mathlib.Core.Path.{_≡_, refl, ap, ap₂, _∙_, sym, subst}
-use mathlib.Core.Bool.{Bool, true, false, not, _&&_, _||_, cond}
-use mathlib.Core.List.{List, [], _∷_, _++_, map}
+use Prim.Native.Nat.{ℕ}
+use mathlib.Core.Path.{_≡_, ap, _∙_, sym}
+use mathlib.Core.List.{List}
 use native.Mathlib.Omega.{arith}
 use denote.Ref.{now}
-use lib.ListN.{length, length-append}
+use lib.ListN.{length}
 use borrow.Author.Needs.{needs}
 use Rattle.reading.specs.declared.Reading.the-variants.{Fine}
-use Rattle.record.specs.Fields.{goalCount}
-use Rattle.record.specs.Reading.{reading}
+use Rattle.fields.specs.Fields.{goalCount}
+use Rattle.reading.specs.Reading.{reading}
 use lib.ListN.{take}
 use Rattle.text.specs.Lent.{stored}
 use Rattle.mel.specs.Annotation.{answerTo}
-use Rattle.mel.proofs.Accepted.{goal-count}
+use Rattle.record.proofs.WellFormed.{fine-well-formed}
 use Rattle.mel.proofs.Record.{clause-text, clause-length, clause-count, clause-room}
 use Rattle.mel.proofs.Answers.{refused-values, refused-buffer, fine-values, fine-buffer}
 use Rattle.mel.proofs.write.Statement.{statement}
 use Rattle.mel.proofs.write.Tie as tie
-use Rattle.mel.proofs.write.Reads as reads
-use Rattle.mel.proofs.write.Lts as lts
-use Rattle.clause.proofs.decode.Reads as decode-reads
-use Rattle.mel.proofs.write_clause.Reads as write-clause-reads
-use Rattle.record.proofs.read.Reads as read-reads
 
 -- the record was read without a refusal; its clause has its goals
 fine : (c : tie.After-enum-told) → reading (now (c .before .before .before .before .before .args .b)) ≡ Fine
@@ -31,7 +25,7 @@ count : (c : tie.After-decode) → c .decode .result .n ≡ goalCount (now (c .b
 count c = clause-count _ _ (c .decode .ensures)
 
 size : (c : tie.After-decode) → length (take (c .decode .result .n) (c .decode .result .sets)) ≡ goalCount (now (c .before .before .before .before .before .before .args .b))
-size c = clause-length _ (goal-count _ (fine (c .before)) .1) _ (c .decode .ensures)
+size c = clause-length _ (fine-well-formed _ (fine (c .before)) .goals-to) _ (c .decode .ensures)
 
 -- src/lib.rt:251:9
 read-requires : tie.Need-read-requires
@@ -47,11 +41,11 @@ enum-told c = search needs
 
 -- src/lib.rt:255:17
 decode-requires : tie.Need-decode-requires
-decode-requires c κs = goal-count _ (fine c) .1
+decode-requires c κs = fine-well-formed _ (fine c) .goals-to
 
 -- src/lib.rt:260:39
 array-share-prefix-sets : tie.Need-array-share-prefix-sets
-array-share-prefix-sets c = omega (arith, count (c .before .before .before), clause-room _ _ (c .before .before .before .decode .ensures), goal-count _ (fine (c .before .before .before .before)) .1)
+array-share-prefix-sets c = omega (arith, count (c .before .before .before), clause-room _ _ (c .before .before .before .decode .ensures), fine-well-formed _ (fine (c .before .before .before .before)) .goals-to)
 
 -- src/lib.rt:260:39
 slice-aggregate-write-clause : tie.Need-slice-aggregate-write-clause
@@ -67,7 +61,7 @@ slice-aggregate-write-clause-3 c = search needs
 
 -- src/lib.rt:260:13
 write-clause-requires : tie.Need-write-clause-requires
-write-clause-requires c κs = (omega (arith, size (c .before .before .before .before .before .before), goal-count _ (fine (c .before .before .before .before .before .before .before)) .0), omega (arith, size (c .before .before .before .before .before .before), goal-count _ (fine (c .before .before .before .before .before .before .before)) .1))
+write-clause-requires c κs = (omega (arith, size (c .before .before .before .before .before .before), fine-well-formed _ (fine (c .before .before .before .before .before .before .before)) .goals-from), omega (arith, size (c .before .before .before .before .before .before), fine-well-formed _ (fine (c .before .before .before .before .before .before .before)) .goals-to))
 
 -- src/lib.rt:247:1
 returns : tie.Need-returns
@@ -79,13 +73,14 @@ same-length c = search needs
 
 -- src/lib.rt:247:1
 returns-2 : tie.Need-returns-2
-returns-2 c = 
+returns-2 c =
     let d = c .before .before .before .before .before .before .before .before .before in
     let out = now (c .before .before .before .before .before .before .before .before .before .before .before .before .before .before .before .args .out) in
-    let text = clause-text _ (goal-count _ (fine (c .before .before .before .before .before .before .before .before .before .before)) .1) _ (d .decode .ensures) in
-    let wrote = c .before .before .write-clause .ensures in
-    (wrote .0 ∙ ap (λ (t : List ℕ). answerTo t out) text ∙ fine-values _ _ (fine (c .before .before .before .before .before .before .before .before .before .before)),
-    wrote .1 ∙ ap (λ (t : List ℕ). stored t out) text ∙ fine-buffer _ _ (fine (c .before .before .before .before .before .before .before .before .before .before)))
+    let text = clause-text _ (fine-well-formed _ (fine (c .before .before .before .before .before .before .before .before .before .before)) .goals-to) _ (d .decode .ensures) in
+    let wrote = c .before .before .write-clause .ensures in (
+      wrote .0 ∙ ap (λ (t : List ℕ). answerTo t out) text ∙ fine-values _ _ (fine (c .before .before .before .before .before .before .before .before .before .before)),
+      wrote .1 ∙ ap (λ (t : List ℕ). stored t out) text ∙ fine-buffer _ _ (fine (c .before .before .before .before .before .before .before .before .before .before)),
+    )
 
 pub write-spec : {M : Type 1} → statement M
 write-spec =

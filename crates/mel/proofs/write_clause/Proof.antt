@@ -1,10 +1,7 @@
-use Prim.Native.Nat.{ℕ, zero, suc, _≤_, _<_, _*_, _+_, _-_, _^_, _%_, _/_}
-use mathlib.Core.Path.{_≡_, refl, ap, ap₂, _∙_, sym, subst}
-use mathlib.Core.Bool.{Bool, true, false, not, _&&_, _||_, cond}
-use mathlib.Core.List.{List, [], _∷_, _++_, map}
+use mathlib.Core.Path.{_≡_, ap}
 use native.Mathlib.Omega.{arith}
 use denote.Ref.{now}
-use lib.ListN.{length, length-append}
+use lib.ListN.{length}
 use borrow.Author.Needs.{needs}
 use Rattle.text.proofs.Laws.{recast}
 use Rattle.text.proofs.Lent.{stores, keeps}
@@ -13,10 +10,6 @@ use Rattle.mel.proofs.Length.{mel-text, text-fits}
 use Rattle.mel.proofs.Answers.{too-short, accepted}
 use Rattle.mel.proofs.write_clause.Statement.{statement}
 use Rattle.mel.proofs.write_clause.Tie as tie
-use Rattle.mel.proofs.write_clause.Reads as reads
-use Rattle.mel.proofs.write_clause.Lts as lts
-use Rattle.mel.proofs.put_stages.Reads as put-stages-reads
-use Rattle.stages.proofs.up_to.Reads as up-to-reads
 
 -- the text's length, which the first run gives
 needed : (c : tie.After-put-stages) →

@@ -1,7 +1,7 @@
 use Prim.Native.Nat.{_≤_, _-_}
-use mathlib.Core.Path.{_≡_, sym}
+use mathlib.Core.Path.{_≡_, ap, _∙_}
 use native.Mathlib.Omega.{arith}
-use denote.Ref.{now}
+use Rattle.sets.specs.Sets.{union}
 use Rattle.stages.specs.Masks as M
 use Rattle.stages.proofs.Masks.{once-none, once-more, twice-none, twice-more}
 use Rattle.stages.proofs.counted.Statement.{statement}
@@ -48,13 +48,14 @@ loop-less c = omega arith
 -- src/lib.rt:46:5
 loop-again : tie.Need-loop-again Inv-loop μ-loop
 loop-again c =
-    let l = c .before .before .before .before .before .loop in (
+    let l = c .before .before .before .before .before .loop in
+    let s = c .before .before .before .goal .ensures in (
       omega arith,
       (
         omega arith,
         (
-          rw (c .union2 .ensures, c .before .before .before .goal .ensures, l .inv .1 .1 .0) (sym (once-more _ _ _ (omega arith))),
-          rw (c .before .union .ensures, c .before .before .meet .ensures, c .before .before .before .goal .ensures, l .inv .1 .1 .0, l .inv .1 .1 .1) (sym (twice-more _ _ _ (omega arith))),
+          c .union2 .ensures ∙ once-more _ _ _ _ _ (omega arith) (l .inv .1 .1 .0) s,
+          c .before .union .ensures ∙ ap (union (l .t)) (c .before .before .meet .ensures) ∙ twice-more _ _ _ _ _ _ (omega arith) (l .inv .1 .1 .0) (l .inv .1 .1 .1) s,
         ),
       ),
     )

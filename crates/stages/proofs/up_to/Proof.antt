@@ -1,7 +1,6 @@
 use Prim.Native.Nat.{_≤_, _-_}
-use mathlib.Core.Path.{_≡_, _∙_, sym}
+use mathlib.Core.Path.{_≡_, _∙_}
 use native.Mathlib.Omega.{arith}
-use denote.Ref.{now}
 use Rattle.stages.specs.Masks as M
 use Rattle.stages.proofs.Masks.{once-none, once-more, filled, upto-none, upto-more, upto-all}
 use Rattle.stages.proofs.up_to.Statement.{statement}
@@ -47,7 +46,7 @@ loop-again c =
     let l = c .before .before .before .loop in (
       omega arith,
       (
-        rw (c .union .ensures, c .before .goal .ensures, l .inv .1 .0) (sym (once-more _ _ _ (omega arith))),
+        c .union .ensures ∙ once-more _ _ _ _ _ (omega arith) (l .inv .1 .0) (c .before .goal .ensures),
         upto-more _ (l .g) (l .set) _ (omega arith) (l .inv .1 .1) (l .inv .1 .0),
       ),
     )
