@@ -210,11 +210,11 @@ module _ (R : ℕ → ℕ → Bool) where
         (form-row free (arrange R l) (arrange-distinct l d) (λ i m. s i (arrange-member l i .0 m)) (arrange-row l s)
         (let x = member-at (arrange R l) i (arrange-member l i .1 h) in omega (arith, x .1)))
 
-up-distinct : (c a : ℕ) → Distinct (upFrom a c)
+pub up-distinct : (c a : ℕ) → Distinct (upFrom a c)
 up-distinct zero a = tt
 up-distinct (suc c) a = ((λ h. omega (arith, member-up c (suc a) a h .0)), up-distinct c (suc a))
 
-chosen-distinct : (p : ℕ → Bool) (l : List ℕ) → Distinct l → Distinct (chosen p l)
+pub chosen-distinct : (p : ℕ → Bool) (l : List ℕ) → Distinct l → Distinct (chosen p l)
 chosen-distinct p [] d = tt
 chosen-distinct p (x ∷ l) d = by-test Distinct (p x) (λ t. (λ h. d .0 (chosen-member p l x h .0), chosen-distinct p l (d .1))) (λ t. chosen-distinct p l (d .1))
 

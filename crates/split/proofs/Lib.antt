@@ -1,0 +1,4 @@
+pub mod Grow
+pub mod Starting
+pub mod Forms
+pub mod Writing

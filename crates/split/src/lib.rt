@@ -1,0 +1,109 @@
+// Splitting a set of goals into the members of its house form, and writing the form's text. For any strict order on the goals.
+ghost use mathlib.Core.Path.{_≡_};
+ghost use mathlib.Core.Bool.{true, false};
+ghost use Prim.Native.Nat.{suc, _+_, _^_, _<_};
+ghost use lib.ListN.{length};
+ghost use denote.Ref.{now};
+ghost use Rattle.graph.specs.Graph.{ahead};
+ghost use Rattle.text.specs.Text.{Wrote};
+ghost use Rattle.expression.specs.Arrange.{Strict};
+ghost use Rattle.expression.specs.Split.{Component, Starts};
+ghost use Rattle.expression.specs.Text as T;
+ghost use Rattle.split.specs.Hang as Hang;
+ghost use Rattle.split.specs.Split.{Has, Turned, Ordered, formText};
+
+// Those of `left` that hang together with goal i + 1.
+fn hanging(after: &[u32; 32], prior: &[u32; 32], k: bool, left: u32, i: usize) -> u32
+    requires { ⌜ i < 32 ⌝ }
+    ensures { λ r. ⌜ r ≡ Hang.hanging (now (after .entry)) (now (prior .entry)) k left i ⌝ }
+{
+    let later = after[i];
+    let before = prior[i];
+    let near = later | before;
+    if k {
+        sets::without32(left, near)
+    } else {
+        sets::meet32(left, near)
+    }
+}
+
+// The part of the set that hangs together with goal x + 1: `left` is what is not yet in it, `todo` what is in it and whose neighbours are
+// not yet looked at.
+fn component(after: &[u32; 32], prior: &[u32; 32], k: bool, set: u32, x: usize) -> u32
+    requires { ⌜ (x < 32) × Has set (suc x) × Turned (now after) (now prior) set ⌝ }
+    ensures { λ r. ⌜ Component (ahead (now (after .entry))) k (Has set) (suc x) (Has r) ⌝ }
+{
+    let mut todo = sets::single32(x);
+    let mut left = sets::without32(set, todo);
+    while todo != 0 {
+        let i = sets::first32(todo);
+        let fresh = hanging(after, prior, k, left, i);
+        left = sets::without32(left, fresh);
+        let one = sets::single32(i);
+        let others = sets::without32(todo, one);
+        todo = sets::union32(others, fresh);
+    }
+    sets::without32(set, left)
+}
+
+// Those of `rest` that are before goal x + 1, if that matters.
+fn earlier(prior: &[u32; 32], k: bool, rest: u32, x: usize) -> u32
+    requires { ⌜ x < 32 ⌝ }
+    ensures { λ r. ⌜ r ≡ Hang.earlier (now (prior .entry)) k rest x ⌝ }
+{
+    let before = prior[x];
+    if k { sets::meet32(before, rest) } else { 0 }
+}
+
+// A goal, less one, of the first member: of a group the lowest goal, of a sequence one that no goal comes before.
+fn start(prior: &[u32; 32], k: bool, rest: u32) -> usize
+    requires { ⌜ Strict (Hang.behind (now prior)) (Has rest) × ((g : _) × Has rest g) ⌝ }
+    ensures { λ r. ⌜ (r < 32) × Has rest (suc r) × Starts (Hang.behind (now (prior .entry))) k (Has rest) (suc r) ⌝ }
+{
+    let mut x = sets::first32(rest);
+    let mut before = earlier(prior, k, rest, x);
+    while before != 0 {
+        x = sets::first32(before);
+        before = earlier(prior, k, rest, x);
+    }
+    x
+}
+
+// The byte between two members.
+fn mark(k: bool) -> u8
+    ensures { λ r. ⌜ r ≡ T.mark k ⌝ }
+{
+    if k { b',' } else { b'&' }
+}
+
+// Writes the text of the set's house form from place `at`: in parentheses if it is nested in another, unless it is a goal.
+pub fn put_form(
+    out: &mut [u8],
+    at: usize,
+    after: &[u32; 32],
+    prior: &[u32; 32],
+    set: u32,
+    nested: bool,
+) -> usize
+    requires { ⌜ Ordered (now after) (now prior) set × (at + length (formText nested (now after) set) < 2 ^ 63) ⌝ }
+    ensures { λ r. ⌜ Wrote (formText nested (now (after .entry)) set) at (now (out .entry)) r (now (out .exit)) ⌝ }
+{
+    let x = sets::first32(set);
+    if sets::single32(x) == set {
+        return text::put_number(out, at, (x + 1) as u8);
+    }
+    let k = component(after, prior, false, set, x) == set;
+    let sep = mark(k);
+    let mut o = text::put_if(out, at, b'(', nested);
+    let mut rest = set;
+    let mut more = false;
+    while rest != 0 {
+        let y = start(prior, k, rest);
+        let c = component(after, prior, k, rest, y);
+        o = text::put_if(out, o, sep, more);
+        o = put_form(out, o, after, prior, c, true);
+        rest = sets::without32(rest, c);
+        more = true;
+    }
+    text::put_if(out, o, b')', nested)
+}
