@@ -1,7 +1,11 @@
-//! Records put together from their parts, right or wrong: nothing is tested here.
+//! Records put together from their parts, right or wrong: nothing is tested here. And the
+//! clauses that are hardest on an annotator.
 
-/// The parts of a record. Counts that are `None` follow the lists.
-#[derive(Clone, Default, Debug)]
+use crate::Refusal;
+use crate::record::scan;
+
+/// The parts of a record.
+#[derive(Clone, Default, PartialEq, Eq, Debug)]
 pub struct Parts {
     pub variables: u8,
     pub head: u64,
@@ -30,6 +34,19 @@ impl Parts {
         bytes
     }
 
+    /// The parts of a record that reading accepts.
+    pub fn of(record: &[u8]) -> Result<Parts, Refusal> {
+        let mut parts = Parts::default();
+        let (goals, pairs) = (&mut parts.goals, &mut parts.pairs);
+        let header = scan(
+            record,
+            |_, set, place, length| goals.push((set, record[place..place + length].to_vec())),
+            |lower, higher| pairs.push((lower as u8, higher as u8)),
+        )?;
+        (parts.variables, parts.head, parts.ground) = (record[6], header.head, header.ground);
+        Ok(parts)
+    }
+
     /// Goals over the given variables, all of them in the head, without facts.
     pub fn over(variables: u8, sets: &[u64]) -> Parts {
         Parts {
@@ -55,6 +72,57 @@ impl Parts {
             }
         }
         (parts.pairs.len() <= 255).then_some(parts)
+    }
+
+    /// The clause of 32 goals with the longest house form, `1,(2&(3,(4&..(31,32)..)))`.
+    pub fn longest_form() -> Parts {
+        let mut parts = Parts::over(32, &(0..32).map(|goal| 1 << goal).collect::<Vec<u64>>());
+        for goal in (2..=31).step_by(2) {
+            parts.pairs.extend((goal + 1..=32).map(|later| (goal - 1, later - 1)));
+        }
+        parts
+    }
+
+    /// A clause without a form: each goal but the last four waits for the one before it, and
+    /// they for all of these; among them wait 3 for 1 and 2, and 4 for 2. Four goals or more.
+    pub fn without_form(goals: u8) -> Parts {
+        let sets: Vec<u64> = (0..goals).map(|goal| 1 << goal).collect();
+        let mut parts = Parts::over(goals, &sets);
+        let [a, b, c, d] = [goals - 4, goals - 3, goals - 2, goals - 1];
+        parts.pairs = vec![(a, b), (a, d), (c, d)];
+        parts
+    }
+
+    /// A clause whose MEL annotation has stages of these sizes and many checks. `joining` has
+    /// for each stage but the last the variable outside the head that its last goal is the
+    /// first to hold. What is known in a stage is dealt out to its goals in equal parts.
+    pub fn in_stages(variables: u8, sizes: &[usize], joining: &[u8], larger_first: bool) -> Parts {
+        let outside = joining.iter().fold(0u64, |set, variable| set | 1 << variable);
+        let mut parts = Parts::over(variables, &[]);
+        parts.head &= !outside;
+        let mut met = parts.head;
+        for (stage, &size) in sizes.iter().enumerate() {
+            let known: Vec<u64> = (0..64).filter(|x| met >> x & 1 == 1).map(|x| 1 << x).collect();
+            let up_to = |goal: usize| match larger_first {
+                true => (known.len() * goal).div_ceil(size),
+                false => known.len() * goal / size,
+            };
+            for goal in 0..size {
+                let set = known[up_to(goal)..up_to(goal + 1)].iter().sum();
+                parts.goals.push((set, name(parts.goals.len() + 1)));
+            }
+            if let (Some(variable), Some(last)) = (joining.get(stage), parts.goals.last_mut()) {
+                last.0 |= 1 << variable;
+                met |= 1 << variable;
+            }
+        }
+        parts
+    }
+
+    /// The clause with the longest MEL annotation that we found, 192,127 bytes.
+    pub fn longest_mel() -> Parts {
+        let sizes = [2, 2, 2, 2, 2, 2, 2, 2, 2, 2, 2, 2, 2, 3, 3];
+        Parts::in_stages(64, &sizes, &[10, 11, 12, 13, 0, 1, 2, 3, 4, 5, 6, 7, 8, 9], true)
     }
 }
 

@@ -1,6 +1,7 @@
 //! Cases as lines of text, `OPERATION K INPUT.. = ANSWER..`, and what an annotator answers.
 //! The format is explained in the kit's README.
 
+use crate::sheet::sheet;
 use crate::{Order, Refusal, Verdict};
 
 /// The operations of the paper, as a case calls them.
@@ -9,13 +10,13 @@ pub trait Annotator {
     /// `None` if the annotator does not give the waits before closure.
     fn waits(&self, record: &[u8]) -> Option<Result<Order, Refusal>>;
     fn order(&self, record: &[u8]) -> Result<Order, Refusal>;
+    fn after(&self, record: &[u8], goal: u32) -> Result<u32, Refusal>;
     fn form(&self, record: &[u8], out: &mut [u8]) -> Result<u32, Refusal>;
     fn form_length(&self, record: &[u8]) -> Result<u32, Refusal>;
     fn mel(&self, record: &[u8], out: &mut [u8]) -> Result<u32, Refusal>;
     /// Place and length.
     fn goal_text(&self, record: &[u8], goal: u32) -> Result<(u32, u32), Refusal>;
     fn check(&self, record: &[u8], text: &[u8]) -> Result<Verdict, Refusal>;
-    fn sheet(&self, input: &[u8]) -> Vec<u8>;
 }
 
 /// The annotator of this crate.
@@ -31,6 +32,9 @@ impl Annotator for Reference {
     fn order(&self, record: &[u8]) -> Result<Order, Refusal> {
         crate::order(record)
     }
+    fn after(&self, record: &[u8], goal: u32) -> Result<u32, Refusal> {
+        crate::after(record, goal)
+    }
     fn form(&self, record: &[u8], out: &mut [u8]) -> Result<u32, Refusal> {
         crate::form(record, out)
     }
@@ -45,9 +49,6 @@ impl Annotator for Reference {
     }
     fn check(&self, record: &[u8], text: &[u8]) -> Result<Verdict, Refusal> {
         crate::check(record, text)
-    }
-    fn sheet(&self, input: &[u8]) -> Vec<u8> {
-        crate::sheet(input)
     }
 }
 
@@ -72,7 +73,8 @@ pub fn unhex(text: &str) -> Result<Vec<u8>, String> {
     digits.chunks(2).map(|two| Ok((value(two[0])? << 4 | value(two[1])?) as u8)).collect()
 }
 
-fn refused(refusal: Refusal) -> String {
+/// A refusal as an answer.
+pub fn refused(refusal: Refusal) -> String {
     let mut line = format!("refused {} {}", refusal.number, refusal.place);
     if refusal.number == 13 {
         for goal in refusal.goals {
@@ -124,6 +126,7 @@ pub fn answer(annotator: &impl Annotator, question: &str) -> Result<String, Stri
             None => Ok("skip".to_string()),
         },
         "order" => annotator.order(&record).map(rows),
+        "after" => annotator.after(&record, number(3)?).map(|set| format!("ok {set:08x}")),
         "form" => written(number(3)? as usize, |out| annotator.form(&record, out))?,
         "length" => annotator.form_length(&record).map(|length| format!("ok {length}")),
         "mel" => written(number(3)? as usize, |out| annotator.mel(&record, out))?,
@@ -135,7 +138,7 @@ pub fn answer(annotator: &impl Annotator, question: &str) -> Result<String, Stri
             Verdict::Same => "same".to_string(),
             Verdict::Differs(i, j) => format!("differs {i} {j}"),
         }),
-        "sheet" => Ok(format!("ok {}", hex(&annotator.sheet(&record)))),
+        "sheet" => Ok(format!("ok {}", hex(&sheet(annotator, &record)))),
         other => return Err(format!("no operation is called {other}")),
     };
     Ok(answer.unwrap_or_else(refused))

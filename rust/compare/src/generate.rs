@@ -278,12 +278,36 @@ fn by_variables(random: &mut Random) -> Parts {
     parts
 }
 
+/// A clause with a long MEL annotation of several stages.
+fn in_stages(random: &mut Random) -> Parts {
+    let mut sizes = Vec::new();
+    let mut left = random.between(2, 32);
+    while left > 0 {
+        let size = random.between(1, left.min(6));
+        sizes.push(size);
+        left -= size;
+    }
+    let variables = random.pick(&[16, 40, 64]).max(2 * sizes.len());
+    let first = random.below(variables - sizes.len() + 2);
+    let joining: Vec<u8> = (1..sizes.len()).map(|stage| (first + stage - 1) as u8).collect();
+    let mut parts = Parts::in_stages(variables as u8, &sizes, &joining, random.chance(1, 2));
+    for lower in 0..variables as u8 {
+        for higher in lower + 1..variables as u8 {
+            if parts.pairs.len() < 255 && random.chance(1, 16) {
+                parts.pairs.push((lower, higher));
+            }
+        }
+    }
+    parts
+}
+
 /// A well-formed record's parts.
 pub fn parts(random: &mut Random) -> Parts {
-    let mut parts = match random.below(8) {
-        0..=2 => with_form(random),
-        3 => with_any_waits(random),
-        4 => almost_with_form(random),
+    let mut parts = match random.below(20) {
+        0..=4 => with_form(random),
+        5..=8 => with_any_waits(random),
+        9..=12 => almost_with_form(random),
+        13 => in_stages(random),
         _ => by_variables(random),
     };
     for goal in &mut parts.goals {

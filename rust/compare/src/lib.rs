@@ -2,6 +2,7 @@
 //! `01-scope.md` ("01") and apart from the proved one. It is the reference of the
 //! differential test and the yardstick of the benchmark, so it is fast: goal sets are
 //! `u32`, variable sets `u64`, nothing is allocated, a record is decoded once a call.
+//! With the feature `proved` the proved one can be asked the same questions.
 //!
 //! ```
 //! // 01's whole case, 67 bytes.
@@ -26,6 +27,8 @@ pub mod generate;
 mod mel;
 mod numbers;
 mod order;
+#[cfg(feature = "proved")]
+pub mod proved;
 mod record;
 mod sheet;
 

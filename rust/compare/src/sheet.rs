@@ -1,16 +1,17 @@
 //! The printed sheet, as 01 words it. Not timed, so it allocates.
 
-use crate::{FORM_LIMIT, form, goal_text, mel, read};
+use crate::FORM_LIMIT;
+use crate::cases::Annotator;
 
 /// Input beyond this many bytes is not read.
 pub const INPUT_LIMIT: usize = 4096;
 /// A longer MEL annotation is not printed.
 pub const MEL_LIMIT: usize = 32768;
 
-/// What the program prints for this standard input.
-pub fn sheet(input: &[u8]) -> Vec<u8> {
+/// What the program prints for this standard input, from an annotator's answers.
+pub fn sheet(annotator: &impl Annotator, input: &[u8]) -> Vec<u8> {
     let record = &input[..input.len().min(INPUT_LIMIT)];
-    let goals = match read(record) {
+    let goals = match annotator.read(record) {
         Ok(goals) => goals,
         Err(refusal) => {
             return format!("refused {} {}\n", refusal.number, refusal.place).into_bytes();
@@ -18,14 +19,14 @@ pub fn sheet(input: &[u8]) -> Vec<u8> {
     };
     let mut sheet = format!("goals {goals}\n").into_bytes();
     for goal in 1..=goals {
-        let (place, length) = goal_text(record, goal).unwrap_or((0, 0));
+        let (place, length) = annotator.goal_text(record, goal).unwrap_or((0, 0));
         sheet.extend(format!("{goal} ").bytes());
         sheet.extend(&record[place as usize..][..length as usize]);
         sheet.push(b'\n');
     }
     let mut text = [0; FORM_LIMIT];
     sheet.extend(b"form ");
-    match form(record, &mut text) {
+    match annotator.form(record, &mut text) {
         Ok(length) => sheet.extend(&text[..length as usize]),
         Err(refusal) => {
             let [a, b, c, d] = refusal.goals;
@@ -34,7 +35,7 @@ pub fn sheet(input: &[u8]) -> Vec<u8> {
     }
     let mut text = vec![0; MEL_LIMIT];
     sheet.extend(b"\nmel ");
-    match mel(record, &mut text) {
+    match annotator.mel(record, &mut text) {
         Ok(length) => sheet.extend(&text[..length as usize]),
         Err(refusal) => sheet.extend(format!("refused 12 {}", refusal.place).bytes()),
     }

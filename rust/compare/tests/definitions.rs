@@ -2,6 +2,7 @@
 //! of few goals, and seeded clauses of any size.
 
 use compare::build::Parts;
+use compare::cases::Reference;
 use compare::generate::{self, Expression, Random};
 use compare::{Refusal, Verdict};
 use std::collections::BTreeSet;
@@ -224,6 +225,44 @@ fn seeded_clauses() {
             assert_eq!(short, Err(Refusal { number: 12, place: length as u32, goals: [0; 4] }));
         }
     }
+}
+
+/// The lengths at which the sheet stops printing, and the longest ones.
+#[test]
+fn long_annotations() {
+    let mut clauses = vec![
+        Parts::in_stages(64, &[2; 16], &(49..64).collect::<Vec<u8>>(), false),
+        Parts::longest_mel(),
+    ];
+    let vectors = include_str!("../../../kit/vectors/base.txt");
+    for line in vectors.lines().filter(|line| line.starts_with("mel ")) {
+        let (question, answer) = line.split_once(" = ").unwrap();
+        if ["refused 12 32768", "refused 12 32769"].contains(&answer) {
+            let record = compare::cases::unhex(question.split(' ').nth(2).unwrap()).unwrap();
+            clauses.push(Parts::of(&record).unwrap());
+        }
+    }
+    let mut lengths = BTreeSet::new();
+    for parts in clauses {
+        let record = parts.record();
+        assert_eq!(Parts::of(&record).as_ref(), Ok(&parts));
+        let expected = mel(&parts);
+        let length = expected.len();
+        lengths.insert(length);
+        let mut out = vec![7; length + 1];
+        let short = Err(Refusal { number: 12, place: length as u32, goals: [0; 4] });
+        assert_eq!(compare::mel(&record, &mut out[..length - 1]), short);
+        assert!(out.iter().all(|byte| *byte == 7));
+        assert_eq!(compare::mel(&record, &mut out), Ok(length as u32));
+        assert_eq!((&out[..length], out[length]), (expected.as_bytes(), 7));
+        let sheet = compare::sheet(&Reference, &record);
+        let line = match length {
+            0..=32768 => format!("\nmel {expected}\n"),
+            _ => format!("\nmel refused 12 {length}\n"),
+        };
+        assert!(sheet.ends_with(line.as_bytes()));
+    }
+    assert_eq!(lengths.into_iter().collect::<Vec<_>>(), [32_768, 32_769, 188_354, 192_127]);
 }
 
 #[test]

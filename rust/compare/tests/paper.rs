@@ -1,6 +1,7 @@
 //! 01's drafts and the settled readings, each by its sentence.
 
 use compare::build::Parts;
+use compare::cases::Reference;
 use compare::{Refusal, Verdict};
 
 fn refusal(number: u8, place: u32) -> Refusal {
@@ -190,19 +191,30 @@ fn the_whole_case() {
     parts.pairs = vec![(0, 1), (0, 2)];
     assert_eq!(parts.record().len(), 67);
     let sheet = "goals 3\n1 half\n2 edge\n3 join\nform (1&2),3\nmel (1&2),3\n";
-    assert_eq!(compare::sheet(&parts.record()), sheet.as_bytes());
+    assert_eq!(compare::sheet(&Reference, &parts.record()), sheet.as_bytes());
 }
 
 #[test]
 fn the_longest_form() {
-    // 1,(2&(3,(4&..(31,32)..))): goals 2, 4, .. 30 are unordered with all above them.
-    let mut pairs = Vec::new();
-    for i in (1..32).step_by(2) {
-        pairs.extend((i + 1..=32).map(|j| (i, j)));
-    }
-    let form = form_of(&waits(32, &pairs)).unwrap();
+    let form = form_of(&Parts::longest_form()).unwrap();
     assert_eq!(form.len(), 146);
     assert!(form.starts_with("1,(2&(3,(4&(5,"));
+}
+
+#[test]
+fn long_annotations() {
+    let joining: Vec<u8> = (49..64).collect();
+    assert_eq!(mel_of(&Parts::in_stages(64, &[2; 16], &joining, false)).len(), 188_354);
+    assert_eq!(mel_of(&Parts::longest_mel()).len(), 192_127);
+}
+
+#[test]
+fn without_a_form_at_every_size() {
+    for goals in 4..=32u8 {
+        let four = [goals - 3, goals - 2, goals - 1, goals];
+        let none = Refusal { number: 13, place: 0, goals: four };
+        assert_eq!(form_of(&Parts::without_form(goals)), Err(none));
+    }
 }
 
 #[test]

@@ -1,0 +1,52 @@
+//! The proved library behind the same questions as the hand-written annotator.
+
+use crate::cases::Annotator;
+use crate::{GOAL_LIMIT, Order, Refusal, Verdict};
+
+/// The annotator of the static library.
+pub struct Proved;
+
+fn refusal(refusal: lfj::Refusal) -> Refusal {
+    Refusal { number: refusal.number, place: refusal.place, goals: refusal.goals }
+}
+
+impl Annotator for Proved {
+    fn read(&self, record: &[u8]) -> Result<u32, Refusal> {
+        lfj::read(record).map_err(refusal)
+    }
+    /// The library gives the closed order alone.
+    fn waits(&self, _: &[u8]) -> Option<Result<Order, Refusal>> {
+        None
+    }
+    fn order(&self, record: &[u8]) -> Result<Order, Refusal> {
+        let goals = self.read(record)? as usize;
+        let mut rows = [0; GOAL_LIMIT];
+        for (row, goal) in rows[..goals].iter_mut().zip(1..) {
+            *row = self.after(record, goal)?;
+        }
+        Ok(Order { goals, rows })
+    }
+    fn after(&self, record: &[u8], goal: u32) -> Result<u32, Refusal> {
+        lfj::after(record, goal).map_err(refusal)
+    }
+    fn form(&self, record: &[u8], out: &mut [u8]) -> Result<u32, Refusal> {
+        lfj::form(record, out).map(|length| length as u32).map_err(refusal)
+    }
+    fn form_length(&self, record: &[u8]) -> Result<u32, Refusal> {
+        lfj::form_length(record).map(|length| length as u32).map_err(refusal)
+    }
+    fn mel(&self, record: &[u8], out: &mut [u8]) -> Result<u32, Refusal> {
+        lfj::mel(record, out).map(|length| length as u32).map_err(refusal)
+    }
+    fn goal_text(&self, record: &[u8], goal: u32) -> Result<(u32, u32), Refusal> {
+        let text = lfj::goal_text(record, goal).map_err(refusal)?;
+        let place = text.as_ptr() as usize - record.as_ptr() as usize;
+        Ok((place as u32, text.len() as u32))
+    }
+    fn check(&self, record: &[u8], text: &[u8]) -> Result<Verdict, Refusal> {
+        match lfj::check(record, text).map_err(refusal)? {
+            lfj::Verdict::Same => Ok(Verdict::Same),
+            lfj::Verdict::Differs(i, j) => Ok(Verdict::Differs(i, j)),
+        }
+    }
+}
