@@ -21,6 +21,7 @@
 
 pub mod build;
 pub mod cases;
+pub mod describe;
 mod expression;
 mod form;
 pub mod generate;
