@@ -25,6 +25,7 @@ pub mod describe;
 mod expression;
 mod form;
 pub mod generate;
+pub mod kit;
 mod mel;
 mod numbers;
 mod order;

@@ -14,9 +14,12 @@ impl Annotator for Proved {
     fn read(&self, record: &[u8]) -> Result<u32, Refusal> {
         lfj::read(record).map_err(refusal)
     }
-    /// The library gives the closed order alone.
-    fn waits(&self, _: &[u8]) -> Option<Result<Order, Refusal>> {
-        None
+    /// The library gives the closed order alone, which up to two goals is that of the waits.
+    fn waits(&self, record: &[u8]) -> Option<Result<Order, Refusal>> {
+        match self.read(record) {
+            Ok(3..) => None,
+            _ => Some(self.order(record)),
+        }
     }
     fn order(&self, record: &[u8]) -> Result<Order, Refusal> {
         let goals = self.read(record)? as usize;
