@@ -6,7 +6,7 @@ sh "$here/build.sh"
 stack="$here/target/release/stack"
 
 # The limit has to bite: 300 KB must not fit.
-if (ulimit -s 256 && "$stack" --use 300) >/dev/null 2>&1; then
+if sh -c 'ulimit -s 256; "$0" --use 300; exit $?' "$stack" >/dev/null 2>&1; then
     echo "A stack of 256 KB held 300 KB: the limit is not in force." >&2
     exit 1
 fi
@@ -18,7 +18,7 @@ echo
 echo "least stack on which each call, with the program around it, runs (KB):"
 "$stack" --names | while IFS= read -r name; do
     for size in 16 24 32 40 48 64 80 96 112 128 160 192 224 256; do
-        if (ulimit -s "$size" && "$stack" "$name") >/dev/null 2>&1; then
+        if sh -c 'ulimit -s "$0"; "$1" "$2"; exit $?' "$size" "$stack" "$name" >/dev/null 2>&1; then
             printf '%5d  %s\n' "$size" "$name"
             break
         fi

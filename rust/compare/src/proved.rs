@@ -1,10 +1,37 @@
-//! The proved library behind the same questions as the hand-written annotator.
+//! The proved library behind the same questions as the hand-written annotator, and the
+//! answer words that the hand-written one would give.
 
 use crate::cases::Annotator;
 use crate::{GOAL_LIMIT, Order, Refusal, Verdict};
 
 /// The annotator of the static library.
 pub struct Proved;
+
+/// The answer word of a refusal.
+pub fn refusal_word(refusal: Refusal) -> u64 {
+    let Refusal { number, place, goals: [a, b, c, d] } = refusal;
+    let goals = (a as u64) << 32 | (b as u64) << 38 | (c as u64) << 44 | (d as u64) << 50;
+    (number as u64) << 56 | goals | place as u64
+}
+
+/// The answer word of a number or a refusal.
+pub fn word(answer: Result<u32, Refusal>) -> u64 {
+    answer.map_or_else(refusal_word, u64::from)
+}
+
+/// The answer word of a goal's text.
+pub fn text_word(answer: Result<(u32, u32), Refusal>) -> u64 {
+    let both = |(place, length)| place as u64 | (length as u64) << 32;
+    answer.map_or_else(refusal_word, both)
+}
+
+/// The answer word of a check.
+pub fn check_word(answer: Result<Verdict, Refusal>) -> u64 {
+    answer.map_or_else(refusal_word, |verdict| match verdict {
+        Verdict::Same => 0,
+        Verdict::Differs(i, j) => i as u64 | (j as u64) << 8,
+    })
+}
 
 fn refusal(refusal: lfj::Refusal) -> Refusal {
     Refusal { number: refusal.number, place: refusal.place, goals: refusal.goals }

@@ -7,10 +7,11 @@
 //! Ends with status 0 if there is no difference and every refusal, verdict, form and no
 //! form was met.
 
-use compare::cases::{Annotator, Reference, answer, hex, refused};
+use compare::cases::{Annotator, Reference, answer, hex, refused, unhex};
 use compare::generate::{self, Random};
-use compare::proved::Proved;
+use compare::proved::{Proved, check_word, text_word, word};
 use compare::{FORM_LIMIT, Refusal, Verdict};
+use lfj::c;
 use std::fmt::Debug;
 use std::process::ExitCode;
 use std::time::Instant;
@@ -97,6 +98,13 @@ impl Run {
         hand
     }
 
+    /// The library's answer word, unused bits included, against the one wanted.
+    fn hold_word(&mut self, given: u64, wanted: u64, question: impl FnOnce() -> String) {
+        if given != wanted {
+            self.report(question(), format!("word {given:016x}"), format!("word {wanted:016x}"));
+        }
+    }
+
     /// Both writers into a buffer of `room` bytes; answers, texts and all other bytes.
     fn writer(
         &mut self,
@@ -105,6 +113,7 @@ impl Run {
         room: usize,
         byte: u8,
         proved: impl FnOnce(&mut [u8]) -> Result<u32, Refusal>,
+        raw: unsafe extern "C" fn(*const u8, usize, *mut u8, usize) -> u64,
         hand: impl FnOnce(&mut [u8]) -> Result<u32, Refusal>,
     ) {
         let all = room + 2 * MARGIN;
@@ -114,6 +123,10 @@ impl Run {
         let hand = hand(&mut self.hand_buffer[MARGIN..MARGIN + room]);
         let question = || format!("{operation} 0 {} {room}", hex(record));
         let answer = self.hold(proved, hand, question);
+        let (start, n) = (record.as_ptr(), record.len());
+        // SAFETY: the pointers are those of slices, and the buffer is a vector of its own.
+        let given = unsafe { raw(start, n, self.proved_buffer[MARGIN..].as_mut_ptr(), room) };
+        self.hold_word(given, word(answer), question);
         let text = MARGIN..MARGIN + answer.unwrap_or(0) as usize;
         let (given, wanted) = (&self.proved_buffer[..all], &self.hand_buffer[..all]);
         let kept = |at: &usize| given[*at] == byte;
@@ -137,16 +150,24 @@ impl Run {
         let read = self.hold(Proved.read(record), Reference.read(record), || {
             format!("read 0 {}", hex(record))
         });
+        // SAFETY, here and below: a slice's pointer is not null and its bytes may be read.
+        let (start, n) = (record.as_ptr(), record.len());
+        let given = unsafe { c::lfj_read(start, n) };
+        self.hold_word(given, word(read), || format!("read 0 {}", hex(record)));
         self.met.records += 1;
         self.met.accepted += read.is_ok() as usize;
         for _ in 0..3 {
             let goal = goal_number(random, goals);
             let question = |name: &str| format!("{name} 0 {} {goal}", hex(record));
             let (proved, hand) = (Proved.after(record, goal), Reference.after(record, goal));
-            let _ = self.hold(proved, hand, || question("after"));
+            let answer = self.hold(proved, hand, || question("after"));
+            let given = unsafe { c::lfj_after(start, n, goal) };
+            self.hold_word(given, word(answer), || question("after"));
             let (proved, hand) =
                 (Proved.goal_text(record, goal), Reference.goal_text(record, goal));
-            let _ = self.hold(proved, hand, || question("text"));
+            let answer = self.hold(proved, hand, || question("text"));
+            let given = unsafe { c::lfj_goal_text(start, n, goal) };
+            self.hold_word(given, text_word(answer), || question("text"));
         }
         let form = self.form(random, record);
         self.estimate(record, form.len());
@@ -154,7 +175,11 @@ impl Run {
         for _ in 0..2 {
             let text = generate::text(random, goals as usize, &form);
             let (proved, hand) = (Proved.check(record, &text), Reference.check(record, &text));
-            match self.hold(proved, hand, || format!("check 0 {} {}", hex(record), hex(&text))) {
+            let question = || format!("check 0 {} {}", hex(record), hex(&text));
+            let answer = self.hold(proved, hand, question);
+            let given = unsafe { c::lfj_check(start, n, text.as_ptr(), text.len()) };
+            self.hold_word(given, check_word(answer), question);
+            match answer {
                 Ok(Verdict::Same) => self.met.same += 1,
                 Ok(Verdict::Differs(..)) => self.met.differs += 1,
                 Err(_) => (),
@@ -174,7 +199,8 @@ impl Run {
         let room = generate::room(random, length);
         let write = |out: &mut [u8]| Reference.form(record, out);
         let byte = random.word() as u8;
-        self.writer("form", record, room, byte, |out| Proved.form(record, out), write);
+        let proved = |out: &mut [u8]| Proved.form(record, out);
+        self.writer("form", record, room, byte, proved, c::lfj_form, write);
         text[..length].to_vec()
     }
 
@@ -190,6 +216,9 @@ impl Run {
             let question = format!("length 0 {}", hex(record));
             self.report(question, format!("{proved:?}"), format!("{least} to 160 or {hand:?}"));
         }
+        // SAFETY: a slice's pointer is not null and its bytes may be read.
+        let given = unsafe { c::lfj_form_length(record.as_ptr(), record.len()) };
+        self.hold_word(given, word(proved), || format!("length 0 {}", hex(record)));
     }
 
     fn mel(&mut self, random: &mut Random, record: &[u8]) {
@@ -198,7 +227,8 @@ impl Run {
         let room = generate::room(random, length).min(most);
         let byte = random.word() as u8;
         let write = |out: &mut [u8]| Reference.mel(record, out);
-        self.writer("mel", record, room, byte, |out| Proved.mel(record, out), write);
+        let proved = |out: &mut [u8]| Proved.mel(record, out);
+        self.writer("mel", record, room, byte, proved, c::lfj_mel, write);
     }
 }
 
@@ -249,6 +279,61 @@ fn run(cases: usize, seed: u64) -> ExitCode {
     if run.differences == 0 { ExitCode::SUCCESS } else { ExitCode::FAILURE }
 }
 
+/// The answer words to a question, the library's and the one wanted; the estimate has a free
+/// part and is left out.
+fn words(question: &str) -> Option<(u64, u64)> {
+    let fields: Vec<&str> = question.split(' ').collect();
+    let record = unhex(fields.get(2)?).ok()?;
+    let number = || fields.get(3)?.parse::<u32>().ok();
+    let (start, n) = (record.as_ptr(), record.len());
+    let mut out = vec![0u8; number().unwrap_or(0) as usize];
+    // SAFETY of all calls: the pointers are those of vectors, and the buffer is one of its own.
+    Some(match fields[0] {
+        "read" => (unsafe { c::lfj_read(start, n) }, word(Reference.read(&record))),
+        "after" => {
+            let goal = number()?;
+            (unsafe { c::lfj_after(start, n, goal) }, word(Reference.after(&record, goal)))
+        }
+        "form" => (
+            unsafe { c::lfj_form(start, n, out.as_mut_ptr(), out.len()) },
+            word(Reference.form(&record, &mut out)),
+        ),
+        "mel" => (
+            unsafe { c::lfj_mel(start, n, out.as_mut_ptr(), out.len()) },
+            word(Reference.mel(&record, &mut out)),
+        ),
+        "text" => {
+            let (goal, wanted) = (number()?, Reference.goal_text(&record, number()?));
+            (unsafe { c::lfj_goal_text(start, n, goal) }, text_word(wanted))
+        }
+        "check" => {
+            let text = unhex(fields.get(3)?).ok()?;
+            let given = unsafe { c::lfj_check(start, n, text.as_ptr(), text.len()) };
+            (given, check_word(Reference.check(&record, &text)))
+        }
+        _ => return None,
+    })
+}
+
+/// Both answers to one question.
+fn one(question: &str) -> ExitCode {
+    let (proved, hand) = match (answer(&Proved, question), answer(&Reference, question)) {
+        (Ok(proved), Ok(hand)) => (proved, hand),
+        (Err(error), _) | (_, Err(error)) => {
+            eprintln!("{error}");
+            return ExitCode::from(2);
+        }
+    };
+    println!("hand-written  {hand}\nproved        {proved}");
+    let mut same = proved == hand;
+    if let Some((given, wanted)) = words(question) {
+        println!("word wanted   {wanted:016x}\nword given    {given:016x}");
+        same &= given == wanted;
+    }
+    println!("{}", if same { "the same" } else { "a difference" });
+    if same { ExitCode::SUCCESS } else { ExitCode::FAILURE }
+}
+
 fn usage() -> ExitCode {
     eprintln!("usage: differences [CASES [SEED]] | differences --case 'OPERATION 0 INPUT..'");
     ExitCode::from(2)
@@ -258,19 +343,7 @@ fn main() -> ExitCode {
     let words: Vec<String> = std::env::args().skip(1).collect();
     if words.first().is_some_and(|word| word == "--case") {
         let [_, question] = &words[..] else { return usage() };
-        let (proved, hand) = (answer(&Proved, question), answer(&Reference, question));
-        match (proved, hand) {
-            (Ok(proved), Ok(hand)) => {
-                println!("hand-written  {hand}\nproved        {proved}");
-                let same = proved == hand;
-                println!("{}", if same { "the same" } else { "a difference" });
-                return if same { ExitCode::SUCCESS } else { ExitCode::FAILURE };
-            }
-            (Err(error), _) | (_, Err(error)) => {
-                eprintln!("{error}");
-                return ExitCode::from(2);
-            }
-        }
+        return one(question);
     }
     let number = |at: usize, default: u64| match words.get(at) {
         Some(word) => word.replace('_', "").parse().ok(),
