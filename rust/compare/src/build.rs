@@ -83,6 +83,16 @@ impl Parts {
         parts
     }
 
+    /// The longest record, 2,102 bytes: 32 texts of 40 bytes and 255 pairs. Its form is the
+    /// longest one.
+    pub fn longest_record() -> Parts {
+        let mut parts = Parts::longest_form();
+        parts.goals.iter_mut().for_each(|goal| goal.1 = vec![b'~'; 40]);
+        parts.variables = 64;
+        parts.pairs.extend((33..48).map(|higher| (32, higher)));
+        parts
+    }
+
     /// A clause without a form: each goal but the last four waits for the one before it, and
     /// they for all of these; among them wait 3 for 1 and 2, and 4 for 2. Four goals or more.
     pub fn without_form(goals: u8) -> Parts {

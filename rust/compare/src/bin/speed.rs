@@ -174,6 +174,10 @@ fn lines() -> Vec<Line> {
         let goals = input.record[5] as usize;
         lines.push(Line { operation, goals, clause: clause.to_string(), input });
     };
+    let longest = Parts::longest_record();
+    more(&READ, "the longest record", input(&longest, None, 0));
+    more(&AFTER, "the longest record", input(&longest, None, 0));
+    more(&TEXT, "the longest record", input(&longest, None, 0));
     let shared = Parts::over(64, &(0..32).map(|goal| 3 << goal).collect::<Vec<u64>>());
     more(&FORM, "a chain, no facts listed", input(&shared, None, 160));
     more(&FORM, "buffer of 0 bytes", input(&Parts::longest_form(), None, 0));

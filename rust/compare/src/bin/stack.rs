@@ -34,15 +34,8 @@ fn longest_mel() -> Vec<u8> {
     Parts::longest_mel().record()
 }
 
-/// 32 goals of 40 bytes of text and 255 pairs: no record is longer.
 fn longest_record() -> Vec<u8> {
-    let mut parts = Parts::longest_form();
-    for goal in &mut parts.goals {
-        goal.1 = vec![b'~'; 40];
-    }
-    parts.variables = 64;
-    parts.pairs.extend((33..48).map(|higher| (32, higher)));
-    parts.record()
+    Parts::longest_record().record()
 }
 
 fn form_of(record: &[u8]) -> Vec<u8> {

@@ -164,11 +164,7 @@ pub(super) fn pairs() -> Lines {
     record[7] = 0;
     lines.read(&record);
     lines.note("the longest record, 2,102 bytes, and one byte more");
-    let mut parts = Parts::longest_form();
-    parts.goals.iter_mut().for_each(|goal| goal.1 = vec![b'~'; 40]);
-    parts.variables = 64;
-    parts.pairs.extend((33..48).map(|higher| (32, higher)));
-    let mut record = parts.record();
+    let mut record = Parts::longest_record().record();
     assert_eq!(record.len(), 2102);
     lines.read(&record);
     record.push(33);
