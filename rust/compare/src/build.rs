@@ -93,8 +93,8 @@ impl Parts {
         parts
     }
 
-    /// A clause without a form: each goal but the last four waits for the one before it, and
-    /// they for all of these; among them wait 3 for 1 and 2, and 4 for 2. Four goals or more.
+    /// A clause without a form, of four goals or more: each goal waits for all before it, but
+    /// among the last four, a to d, only c for a and b, and d for b.
     pub fn without_form(goals: u8) -> Parts {
         let sets: Vec<u64> = (0..goals).map(|goal| 1 << goal).collect();
         let mut parts = Parts::over(goals, &sets);
