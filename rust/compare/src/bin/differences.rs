@@ -1,0 +1,356 @@
+//! The proved annotator against the hand-written one, on seeded records and texts, valid
+//! and damaged, every operation, short buffers included.
+//!
+//!     differences [CASES [SEED]]     200000 cases and seed 1 if not given
+//!     differences --case 'LINE'      both answers to one question in the kit's format
+//!
+//! Ends with status 0 if there is no difference and every refusal, verdict, form and no
+//! form was met.
+
+use compare::cases::{Annotator, Reference, answer, hex, refused, unhex};
+use compare::generate::{self, Random};
+use compare::proved::{Proved, check_word, text_word, word};
+use compare::{FORM_LIMIT, Refusal, Verdict};
+use lfj::c;
+use std::fmt::Debug;
+use std::process::ExitCode;
+use std::time::Instant;
+
+/// Bytes on each side of a lent buffer that nobody may change.
+const MARGIN: usize = 64;
+/// Longer than every text an operation writes, `MARGIN`s included.
+const BUFFER: usize = 1 << 18;
+/// After this many differences the run ends.
+const ENOUGH: usize = 10;
+
+/// How often each thing was met, by the hand-written annotator's answers.
+#[derive(Default)]
+struct Met {
+    records: usize,
+    accepted: usize,
+    refusals: [usize; 18],
+    same: usize,
+    differs: usize,
+    form: usize,
+    no_form: usize,
+}
+
+impl Met {
+    fn refusal<T>(&mut self, answer: &Result<T, Refusal>) {
+        if let Err(refusal) = answer {
+            self.refusals[refusal.number as usize] += 1;
+        }
+    }
+
+    /// Prints all counts; gives the names of those that are 0.
+    fn print(&self) -> Vec<String> {
+        let mut all = vec![
+            ("form".to_string(), self.form),
+            ("no form".to_string(), self.no_form),
+            ("same".to_string(), self.same),
+            ("differs".to_string(), self.differs),
+        ];
+        for number in 1..=17 {
+            all.push((format!("refusal {number}"), self.refusals[number]));
+        }
+        println!("records {:>20}", self.records);
+        let percent = 100 * self.accepted / self.records.max(1);
+        println!("accepted {:>19}  ({percent} in 100)", self.accepted);
+        for (name, count) in &all {
+            println!("{name:<12} {count:>15}");
+        }
+        all.into_iter().filter(|(_, count)| *count == 0).map(|(name, _)| name).collect()
+    }
+}
+
+struct Run {
+    seed: u64,
+    case: usize,
+    differences: usize,
+    met: Met,
+    proved_buffer: Vec<u8>,
+    hand_buffer: Vec<u8>,
+}
+
+impl Run {
+    fn report(&mut self, question: String, proved: String, hand: String) {
+        self.differences += 1;
+        println!("difference in case {} of seed {}", self.case, self.seed);
+        println!("  hand-written  {hand}");
+        println!("  proved        {proved}");
+        println!("  again         rust/compare.sh --case '{question}'");
+    }
+
+    fn hold<T: PartialEq + Debug>(
+        &mut self,
+        proved: Result<T, Refusal>,
+        hand: Result<T, Refusal>,
+        question: impl FnOnce() -> String,
+    ) -> Result<T, Refusal> {
+        self.met.refusal(&hand);
+        if proved != hand {
+            let say = |answer: &Result<T, Refusal>| match answer {
+                Ok(value) => format!("{value:?}"),
+                Err(refusal) => refused(*refusal),
+            };
+            self.report(question(), say(&proved), say(&hand));
+        }
+        hand
+    }
+
+    /// The library's answer word, unused bits included, against the one wanted.
+    fn hold_word(&mut self, given: u64, wanted: u64, question: impl FnOnce() -> String) {
+        if given != wanted {
+            self.report(question(), format!("word {given:016x}"), format!("word {wanted:016x}"));
+        }
+    }
+
+    /// Both writers into a buffer of `room` bytes; answers, texts and all other bytes.
+    fn writer(
+        &mut self,
+        operation: &str,
+        record: &[u8],
+        room: usize,
+        byte: u8,
+        proved: impl FnOnce(&mut [u8]) -> Result<u32, Refusal>,
+        raw: unsafe extern "C" fn(*const u8, usize, *mut u8, usize) -> u64,
+        hand: impl FnOnce(&mut [u8]) -> Result<u32, Refusal>,
+    ) {
+        let all = room + 2 * MARGIN;
+        self.proved_buffer[..all].fill(byte);
+        self.hand_buffer[..all].fill(byte);
+        let proved = proved(&mut self.proved_buffer[MARGIN..MARGIN + room]);
+        let hand = hand(&mut self.hand_buffer[MARGIN..MARGIN + room]);
+        let question = || format!("{operation} 0 {} {room}", hex(record));
+        let answer = self.hold(proved, hand, question);
+        let (start, n) = (record.as_ptr(), record.len());
+        // SAFETY: the pointers are those of slices, and the buffer is a vector of its own.
+        let given = unsafe { raw(start, n, self.proved_buffer[MARGIN..].as_mut_ptr(), room) };
+        self.hold_word(given, word(answer), question);
+        let text = MARGIN..MARGIN + answer.unwrap_or(0) as usize;
+        let (given, wanted) = (&self.proved_buffer[..all], &self.hand_buffer[..all]);
+        let kept = |at: &usize| given[*at] == byte;
+        if proved == hand && given != wanted {
+            let say = |bytes: &[u8]| hex(&bytes[text.clone()]);
+            let (proved, hand) = (say(given), say(wanted));
+            self.report(question(), proved, hand);
+        } else if !((0..text.start).all(|at| kept(&at)) && (text.end..all).all(|at| kept(&at))) {
+            self.report(question(), "changed a byte beside the text".into(), "kept it".into());
+        }
+    }
+
+    fn case(&mut self, random: &mut Random) {
+        let parts = generate::parts(random);
+        let mut record = parts.record();
+        if random.chance(3, 8) {
+            generate::damage(random, &mut record);
+        }
+        let goals = parts.goals.len() as u32;
+        let record = &record[..];
+        let read = self.hold(Proved.read(record), Reference.read(record), || {
+            format!("read 0 {}", hex(record))
+        });
+        // SAFETY, here and below: a slice's pointer is not null and its bytes may be read.
+        let (start, n) = (record.as_ptr(), record.len());
+        let given = unsafe { c::lfj_read(start, n) };
+        self.hold_word(given, word(read), || format!("read 0 {}", hex(record)));
+        self.met.records += 1;
+        self.met.accepted += read.is_ok() as usize;
+        for _ in 0..3 {
+            let goal = goal_number(random, goals);
+            let question = |name: &str| format!("{name} 0 {} {goal}", hex(record));
+            let (proved, hand) = (Proved.after(record, goal), Reference.after(record, goal));
+            let answer = self.hold(proved, hand, || question("after"));
+            let given = unsafe { c::lfj_after(start, n, goal) };
+            self.hold_word(given, word(answer), || question("after"));
+            let (proved, hand) =
+                (Proved.goal_text(record, goal), Reference.goal_text(record, goal));
+            let answer = self.hold(proved, hand, || question("text"));
+            let given = unsafe { c::lfj_goal_text(start, n, goal) };
+            self.hold_word(given, text_word(answer), || question("text"));
+        }
+        let form = self.form(random, record);
+        self.estimate(record, form.len());
+        self.mel(random, record);
+        for _ in 0..2 {
+            let text = generate::text(random, goals as usize, &form);
+            let (proved, hand) = (Proved.check(record, &text), Reference.check(record, &text));
+            let question = || format!("check 0 {} {}", hex(record), hex(&text));
+            let answer = self.hold(proved, hand, question);
+            let given = unsafe { c::lfj_check(start, n, text.as_ptr(), text.len()) };
+            self.hold_word(given, check_word(answer), question);
+            match answer {
+                Ok(Verdict::Same) => self.met.same += 1,
+                Ok(Verdict::Differs(..)) => self.met.differs += 1,
+                Err(_) => (),
+            }
+        }
+    }
+
+    /// Gives the form, empty if there is none.
+    fn form(&mut self, random: &mut Random, record: &[u8]) -> Vec<u8> {
+        let mut text = [0; FORM_LIMIT];
+        let answer = Reference.form(record, &mut text);
+        match answer {
+            Ok(_) => self.met.form += 1,
+            Err(refusal) => self.met.no_form += (refusal.number == 13) as usize,
+        }
+        let length = answer.unwrap_or(0) as usize;
+        let room = generate::room(random, length);
+        let write = |out: &mut [u8]| Reference.form(record, out);
+        let byte = random.word() as u8;
+        let proved = |out: &mut [u8]| Proved.form(record, out);
+        self.writer("form", record, room, byte, proved, c::lfj_form, write);
+        text[..length].to_vec()
+    }
+
+    /// From the form's length up to 160, or the same refusal.
+    fn estimate(&mut self, record: &[u8], least: usize) {
+        let (proved, hand) = (Proved.form_length(record), Reference.form_length(record));
+        self.met.refusal(&hand);
+        let right = match (&proved, &hand) {
+            (Ok(given), Ok(_)) => (least..=160).contains(&(*given as usize)),
+            _ => proved == hand,
+        };
+        if !right {
+            let question = format!("length 0 {}", hex(record));
+            self.report(question, format!("{proved:?}"), format!("{least} to 160 or {hand:?}"));
+        }
+        // SAFETY: a slice's pointer is not null and its bytes may be read.
+        let given = unsafe { c::lfj_form_length(record.as_ptr(), record.len()) };
+        self.hold_word(given, word(proved), || format!("length 0 {}", hex(record)));
+    }
+
+    fn mel(&mut self, random: &mut Random, record: &[u8]) {
+        let most = BUFFER - 2 * MARGIN;
+        let length = Reference.mel(record, &mut self.hand_buffer[..most]).unwrap_or(0) as usize;
+        let room = generate::room(random, length).min(most);
+        let byte = random.word() as u8;
+        let write = |out: &mut [u8]| Reference.mel(record, out);
+        let proved = |out: &mut [u8]| Proved.mel(record, out);
+        self.writer("mel", record, room, byte, proved, c::lfj_mel, write);
+    }
+}
+
+/// Mostly a goal of the clause, sometimes none.
+fn goal_number(random: &mut Random, goals: u32) -> u32 {
+    match random.below(8) {
+        0 => random.pick(&[0, goals + 1, 33, 256 + goals, u32::MAX, random.clone().word() as u32]),
+        _ => random.between(1, goals as usize) as u32,
+    }
+}
+
+fn run(cases: usize, seed: u64) -> ExitCode {
+    println!("{cases} cases, seed {seed}");
+    let mut run = Run {
+        seed,
+        case: 0,
+        differences: 0,
+        met: Met::default(),
+        proved_buffer: vec![0; BUFFER],
+        hand_buffer: vec![0; BUFFER],
+    };
+    let started = Instant::now();
+    let mut said = 0;
+    let mut random = Random::new(seed);
+    for case in 0..cases {
+        run.case = case;
+        // Each case has its own generator, so that it does not depend on those before it.
+        run.case(&mut Random::new(random.word()));
+        if run.differences >= ENOUGH {
+            println!("{ENOUGH} differences, this is enough");
+            return ExitCode::FAILURE;
+        }
+        if started.elapsed().as_secs() / 5 > said {
+            said = started.elapsed().as_secs() / 5;
+            println!("{:>9} cases, {} differences", case + 1, run.differences);
+        }
+    }
+    let missing = run.met.print();
+    println!("{cases} cases, seed {seed}: {} differences", run.differences);
+    if cases >= 10_000 && !missing.is_empty() {
+        println!("never met: {}", missing.join(", "));
+        return ExitCode::FAILURE;
+    }
+    if cases >= 10_000 && 2 * run.met.accepted < run.met.records {
+        println!("fewer than half of the records were accepted");
+        return ExitCode::FAILURE;
+    }
+    if run.differences == 0 { ExitCode::SUCCESS } else { ExitCode::FAILURE }
+}
+
+/// The answer words to a question, the library's and the one wanted; the estimate has a free
+/// part and is left out.
+fn words(question: &str) -> Option<(u64, u64)> {
+    let fields: Vec<&str> = question.split(' ').collect();
+    let record = unhex(fields.get(2)?).ok()?;
+    let number = || fields.get(3)?.parse::<u32>().ok();
+    let (start, n) = (record.as_ptr(), record.len());
+    let mut out = vec![0u8; number().unwrap_or(0) as usize];
+    // SAFETY of all calls: the pointers are those of vectors, and the buffer is one of its own.
+    Some(match fields[0] {
+        "read" => (unsafe { c::lfj_read(start, n) }, word(Reference.read(&record))),
+        "after" => {
+            let goal = number()?;
+            (unsafe { c::lfj_after(start, n, goal) }, word(Reference.after(&record, goal)))
+        }
+        "form" => (
+            unsafe { c::lfj_form(start, n, out.as_mut_ptr(), out.len()) },
+            word(Reference.form(&record, &mut out)),
+        ),
+        "mel" => (
+            unsafe { c::lfj_mel(start, n, out.as_mut_ptr(), out.len()) },
+            word(Reference.mel(&record, &mut out)),
+        ),
+        "text" => {
+            let (goal, wanted) = (number()?, Reference.goal_text(&record, number()?));
+            (unsafe { c::lfj_goal_text(start, n, goal) }, text_word(wanted))
+        }
+        "check" => {
+            let text = unhex(fields.get(3)?).ok()?;
+            let given = unsafe { c::lfj_check(start, n, text.as_ptr(), text.len()) };
+            (given, check_word(Reference.check(&record, &text)))
+        }
+        _ => return None,
+    })
+}
+
+/// Both answers to one question.
+fn one(question: &str) -> ExitCode {
+    let (proved, hand) = match (answer(&Proved, question), answer(&Reference, question)) {
+        (Ok(proved), Ok(hand)) => (proved, hand),
+        (Err(error), _) | (_, Err(error)) => {
+            eprintln!("{error}");
+            return ExitCode::from(2);
+        }
+    };
+    println!("hand-written  {hand}\nproved        {proved}");
+    let mut same = proved == hand;
+    if let Some((given, wanted)) = words(question) {
+        println!("word wanted   {wanted:016x}\nword given    {given:016x}");
+        same &= given == wanted;
+    }
+    println!("{}", if same { "the same" } else { "a difference" });
+    if same { ExitCode::SUCCESS } else { ExitCode::FAILURE }
+}
+
+fn usage() -> ExitCode {
+    eprintln!("usage: differences [CASES [SEED]] | differences --case 'OPERATION 0 INPUT..'");
+    ExitCode::from(2)
+}
+
+fn main() -> ExitCode {
+    let words: Vec<String> = std::env::args().skip(1).collect();
+    if words.first().is_some_and(|word| word == "--case") {
+        let [_, question] = &words[..] else { return usage() };
+        return one(question);
+    }
+    let number = |at: usize, default: u64| match words.get(at) {
+        Some(word) => word.replace('_', "").parse().ok(),
+        None => Some(default),
+    };
+    match (number(0, 200_000), number(1, 1), words.len()) {
+        (Some(cases), Some(seed), 0..=2) => run(cases as usize, seed),
+        _ => usage(),
+    }
+}

@@ -1,0 +1,242 @@
+//! How long each operation takes, proved and hand-written: both in this process, on the same
+//! buffers, by turns.
+//!
+//!     speed [WORD..]     only the lines that hold every word; all if none is given
+
+use compare::build::Parts;
+use compare::generate::padded;
+use lfj::c;
+use std::hint::black_box;
+use std::time::{Duration, Instant};
+
+/// How long one batch of calls should take, and how many batches each side has.
+const BATCH: Duration = Duration::from_micros(400);
+const BATCHES: usize = 60;
+
+/// What an operation is called with. Both sides write into the same buffer.
+struct Input {
+    record: Vec<u8>,
+    text: Vec<u8>,
+    goal: u32,
+    out: Vec<u8>,
+}
+
+/// An operation from both sides. Each call gives one number, made of its answer.
+struct Operation {
+    name: &'static str,
+    proved: fn(&mut Input) -> u64,
+    hand: fn(&mut Input) -> u64,
+}
+
+fn word<T: Into<u64>>(answer: Result<T, compare::Refusal>) -> u64 {
+    match answer {
+        Ok(value) => value.into(),
+        Err(refusal) => (refusal.number as u64) << 56 | refusal.place as u64,
+    }
+}
+
+// SAFETY of all calls below: the pointers are those of vectors, which are not null, and the
+// buffer is a vector of its own.
+const READ: Operation = Operation {
+    name: "read",
+    proved: |i| unsafe { c::lfj_read(i.record.as_ptr(), i.record.len()) },
+    hand: |i| word(compare::read(&i.record)),
+};
+const AFTER: Operation = Operation {
+    name: "after",
+    proved: |i| unsafe { c::lfj_after(i.record.as_ptr(), i.record.len(), i.goal) },
+    hand: |i| word(compare::after(&i.record, i.goal)),
+};
+const FORM: Operation = Operation {
+    name: "form",
+    proved: |i| unsafe {
+        c::lfj_form(i.record.as_ptr(), i.record.len(), i.out.as_mut_ptr(), i.out.len())
+    },
+    hand: |i| word(compare::form(&i.record, &mut i.out)),
+};
+const LENGTH: Operation = Operation {
+    name: "form_length",
+    proved: |i| unsafe { c::lfj_form_length(i.record.as_ptr(), i.record.len()) },
+    hand: |i| word(compare::form_length(&i.record)),
+};
+const MEL: Operation = Operation {
+    name: "mel",
+    proved: |i| unsafe {
+        c::lfj_mel(i.record.as_ptr(), i.record.len(), i.out.as_mut_ptr(), i.out.len())
+    },
+    hand: |i| word(compare::mel(&i.record, &mut i.out)),
+};
+const TEXT: Operation = Operation {
+    name: "goal_text",
+    proved: |i| unsafe { c::lfj_goal_text(i.record.as_ptr(), i.record.len(), i.goal) },
+    hand: |i| {
+        let answer = compare::goal_text(&i.record, i.goal);
+        word(answer.map(|(place, length)| place as u64 | (length as u64) << 32))
+    },
+};
+const CHECK: Operation = Operation {
+    name: "check",
+    proved: |i| unsafe {
+        c::lfj_check(i.record.as_ptr(), i.record.len(), i.text.as_ptr(), i.text.len())
+    },
+    hand: |i| {
+        word(compare::check(&i.record, &i.text).map(|verdict| match verdict {
+            compare::Verdict::Same => 0u64,
+            compare::Verdict::Differs(i, j) => i as u64 | (j as u64) << 8,
+        }))
+    },
+};
+
+const ALL: [&Operation; 7] = [&READ, &AFTER, &FORM, &LENGTH, &MEL, &TEXT, &CHECK];
+
+/// Nanoseconds a call, of `calls` calls.
+#[inline(never)]
+fn batch(side: fn(&mut Input) -> u64, input: &mut Input, calls: u32) -> f64 {
+    let started = Instant::now();
+    for _ in 0..calls {
+        black_box(black_box(side)(black_box(input)));
+    }
+    started.elapsed().as_nanos() as f64 / calls as f64
+}
+
+/// The least of each side's batches, proved then hand-written.
+fn measure(operation: &Operation, input: &mut Input) -> (f64, f64) {
+    let mut calls = 1;
+    while calls < 1 << 20
+        && batch(operation.hand, input, calls) * (calls as f64) < BATCH.as_nanos() as f64
+    {
+        calls *= 2;
+    }
+    let (mut proved, mut hand) = (f64::MAX, f64::MAX);
+    for turn in 0..BATCHES {
+        if turn % 2 == 0 {
+            proved = proved.min(batch(operation.proved, input, calls));
+            hand = hand.min(batch(operation.hand, input, calls));
+        } else {
+            hand = hand.min(batch(operation.hand, input, calls));
+            proved = proved.min(batch(operation.proved, input, calls));
+        }
+    }
+    (proved, hand)
+}
+
+/// A line of the table to be measured.
+struct Line {
+    operation: &'static Operation,
+    goals: usize,
+    clause: String,
+    input: Input,
+}
+
+fn input(parts: &Parts, text: Option<&[u8]>, room: usize) -> Input {
+    let record = parts.record();
+    let goals = parts.goals.len();
+    let mut form = [0; compare::FORM_LIMIT];
+    let text = match (text, compare::form(&record, &mut form)) {
+        (Some(text), _) => text.to_vec(),
+        (None, Ok(length)) => form[..length as usize].to_vec(),
+        // A clause without a form is held against its goals in sequence.
+        (None, Err(_)) => {
+            (1..=goals).map(|goal| goal.to_string()).collect::<Vec<_>>().join(",").into_bytes()
+        }
+    };
+    Input { record, text, goal: goals as u32 / 2 + 1, out: vec![0; room] }
+}
+
+/// A clause whose form nests: 1 waits for nobody, and so on inwards, as the longest form does.
+fn nested(goals: u8) -> Parts {
+    let mut parts = Parts::over(goals, &(0..goals).map(|goal| 1 << goal).collect::<Vec<u64>>());
+    for goal in (2..goals).step_by(2) {
+        parts.pairs.extend((goal + 1..=goals).map(|later| (goal - 1, later - 1)));
+    }
+    parts
+}
+
+fn lines() -> Vec<Line> {
+    let mut lines = Vec::new();
+    for operation in ALL {
+        for goals in [3, 12, 32] {
+            // Three goals always have a form; the least clause without one has four.
+            let without = goals.max(4);
+            for (parts, clause) in
+                [(nested(goals), "with a form"), (Parts::without_form(without), "without a form")]
+            {
+                lines.push(Line {
+                    operation,
+                    goals: parts.goals.len(),
+                    clause: clause.to_string(),
+                    input: input(&parts, None, 1 << 16),
+                });
+            }
+        }
+    }
+    let mut more = |operation, clause: &str, input: Input| {
+        let goals = input.record[5] as usize;
+        lines.push(Line { operation, goals, clause: clause.to_string(), input });
+    };
+    let longest = Parts::longest_record();
+    more(&READ, "the longest record", input(&longest, None, 0));
+    more(&AFTER, "the longest record", input(&longest, None, 0));
+    more(&TEXT, "the longest record", input(&longest, None, 0));
+    let shared = Parts::over(64, &(0..32).map(|goal| 3 << goal).collect::<Vec<u64>>());
+    more(&FORM, "a chain, no facts listed", input(&shared, None, 160));
+    more(&FORM, "buffer of 0 bytes", input(&Parts::longest_form(), None, 0));
+    let long = Parts::longest_mel();
+    more(&MEL, "192,127 bytes", input(&long, None, 192_127));
+    more(&MEL, "192,127 bytes, buffer of 32,768", input(&long, None, 32_768));
+    let one_stage = Parts::in_stages(64, &[32], &[], false);
+    more(&MEL, "one stage, 64 variables", input(&one_stage, None, 32_768));
+    let ten = Parts::with_waits(10, &[]).expect("few pairs");
+    let text = padded(b"1&2&3&4&5&6&7&8&9&10", 512);
+    more(&CHECK, "text of 512 bytes", input(&ten, Some(&text), 0));
+    let deep = [vec![b'('; 32], b"1".to_vec(), vec![b')'; 32]].concat();
+    let one = Parts::with_waits(1, &[]).expect("no pairs");
+    more(&CHECK, "32 open parentheses", input(&one, Some(&deep), 0));
+    lines
+}
+
+fn main() {
+    let words: Vec<String> = std::env::args().skip(1).collect();
+    println!(
+        "Nanoseconds a call: the least of {BATCHES} batches a side, the sides by turns in one"
+    );
+    println!("process, on the same record and into the same buffer, which is not cleared between");
+    println!("calls. Both are release builds. The ratio is proved / hand-written.");
+    println!();
+    println!("| operation | goals | clause | proved | hand-written | ratio |");
+    println!("|---|---:|---|---:|---:|---:|");
+    let mut measured = Vec::new();
+    for mut line in lines() {
+        let title = format!("{} {} {}", line.operation.name, line.goals, line.clause);
+        if !words.iter().all(|word| title.contains(word)) {
+            continue;
+        }
+        let proved = (line.operation.proved)(&mut line.input);
+        let hand = (line.operation.hand)(&mut line.input);
+        // The estimate has a free part, and with 13 the goals are left out here.
+        let known = if proved >> 56 == 13 { u64::MAX << 56 } else { u64::MAX };
+        if line.operation.name != "form_length" && proved & known != hand & known {
+            println!("{title}: the answers differ, {proved:#x} and {hand:#x}");
+            std::process::exit(1);
+        }
+        let (proved, hand) = measure(line.operation, &mut line.input);
+        println!(
+            "| {} | {} | {} | {proved:.1} | {hand:.1} | {:.2}x",
+            line.operation.name,
+            line.goals,
+            line.clause,
+            proved / hand
+        );
+        measured.push((line.operation.name, line.goals, line.clause, proved));
+    }
+    println!();
+    println!("Growth of the proved side from 12 goals to 32:");
+    println!();
+    for (name, goals, clause, small) in &measured {
+        let large =
+            measured.iter().find(|(n, g, c, _)| (n, *g, c) == (name, 32, clause) && *goals == 12);
+        if let Some((.., large)) = large {
+            println!("{name}, {clause}: {:.1}", large / small);
+        }
+    }
+}

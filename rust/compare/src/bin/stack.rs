@@ -1,0 +1,126 @@
+//! Calls each operation of the proved library at its worst input. To be run on a small
+//! stack, which the calls have to do with: all buffers here are on the heap.
+//!
+//!     stack             every call, one line each
+//!     stack NAME        the one call of this name
+//!     stack --names     the names
+//!     stack --use KB    uses so much stack itself: shows that the limit holds
+
+use compare::build::Parts;
+use compare::generate::padded;
+use lfj::{Refusal, Verdict};
+use std::process::ExitCode;
+
+/// A name and a call that says whether the answer was the expected one.
+type Call = (&'static str, fn() -> bool);
+
+fn no_form() -> Refusal {
+    Refusal { number: 13, place: 0, goals: [29, 30, 31, 32] }
+}
+
+fn short(length: u32) -> Refusal {
+    Refusal { number: 12, place: length, goals: [0; 4] }
+}
+
+fn longest_form() -> Vec<u8> {
+    Parts::longest_form().record()
+}
+
+fn without_form() -> Vec<u8> {
+    Parts::without_form(32).record()
+}
+
+fn longest_mel() -> Vec<u8> {
+    Parts::longest_mel().record()
+}
+
+fn longest_record() -> Vec<u8> {
+    Parts::longest_record().record()
+}
+
+fn form_of(record: &[u8]) -> Vec<u8> {
+    let mut out = vec![0; lfj::FORM_LIMIT];
+    let length = compare::form(record, &mut out).unwrap_or(0);
+    out.truncate(length as usize);
+    out
+}
+
+const CALLS: &[Call] = &[
+    ("read, 2,102 bytes", || {
+        let record = longest_record();
+        record.len() == 2102 && lfj::read(&record) == Ok(32)
+    }),
+    ("after, 32 goals", || lfj::after(&longest_form(), 1) == Ok(u32::MAX - 1)),
+    ("after, without a form", || lfj::after(&without_form(), 1) == Ok(u32::MAX - 1)),
+    ("form, the longest", || lfj::form(&longest_form(), &mut vec![0; 146]) == Ok(146)),
+    ("form, buffer of 145 bytes", || {
+        lfj::form(&longest_form(), &mut vec![0; 145]) == Err(short(146))
+    }),
+    ("form, 32 goals without one", || {
+        lfj::form(&without_form(), &mut vec![0; 146]) == Err(no_form())
+    }),
+    ("form_length, the longest", || {
+        lfj::form_length(&longest_form()).is_ok_and(|length| (146..=160).contains(&length))
+    }),
+    ("form_length, 32 goals without one", || lfj::form_length(&without_form()) == Err(no_form())),
+    ("mel, 192,127 bytes", || lfj::mel(&longest_mel(), &mut vec![0; 192_127]) == Ok(192_127)),
+    ("mel, buffer of 0 bytes", || lfj::mel(&longest_mel(), &mut []) == Err(short(192_127))),
+    ("goal_text, the last of the longest record", || {
+        lfj::goal_text(&longest_record(), 32) == Ok(&[b'~'; 40])
+    }),
+    ("check, the longest form", || {
+        let record = longest_form();
+        lfj::check(&record, &form_of(&record)) == Ok(Verdict::Same)
+    }),
+    ("check, 32 open parentheses", || {
+        let record = Parts::over(0, &[0]).record();
+        let text = [vec![b'('; 32], b"1".to_vec(), vec![b')'; 32]].concat();
+        lfj::check(&record, &text) == Ok(Verdict::Same)
+    }),
+    ("check, 512 open parentheses", || {
+        let refusal = Refusal { number: 16, place: 32, goals: [0; 4] };
+        lfj::check(&longest_form(), &[b'('; 512]) == Err(refusal)
+    }),
+    ("check, 512 bytes", || {
+        let record = longest_form();
+        let text = padded(&form_of(&record), 512);
+        text.len() == 512 && lfj::check(&record, &text) == Ok(Verdict::Same)
+    }),
+    ("check, 512 bytes in sequence", || {
+        let text = [b"1,".repeat(255), b"12".to_vec()].concat();
+        let refusal = Refusal { number: 17, place: 2, goals: [0; 4] };
+        lfj::check(&longest_form(), &text) == Err(refusal)
+    }),
+];
+
+/// Uses about `kilobytes` of stack.
+#[inline(never)]
+fn deep(kilobytes: usize) -> u8 {
+    let block = std::hint::black_box([1u8; 1024]);
+    if kilobytes <= 1 { block[0] } else { deep(kilobytes - 1) ^ std::hint::black_box(block)[7] }
+}
+
+fn main() -> ExitCode {
+    let words: Vec<String> = std::env::args().skip(1).collect();
+    let one = words.first().map(String::as_str);
+    if one == Some("--names") {
+        CALLS.iter().for_each(|(name, _)| println!("{name}"));
+        return ExitCode::SUCCESS;
+    }
+    if one == Some("--use") {
+        let kilobytes = words.get(1).and_then(|word| word.parse().ok()).unwrap_or(1024);
+        println!("{}", deep(kilobytes));
+        return ExitCode::SUCCESS;
+    }
+    let mut right = true;
+    let mut called = 0;
+    for (name, call) in CALLS.iter().filter(|(name, _)| one.is_none_or(|wanted| wanted == *name)) {
+        let answer = call();
+        if one.is_none() || !answer {
+            println!("{name}: {}", if answer { "ok" } else { "another answer than expected" });
+        }
+        right &= answer;
+        called += 1;
+    }
+    if right && called > 0 { ExitCode::SUCCESS } else { ExitCode::FAILURE }
+}

@@ -1,0 +1,195 @@
+//! Cases as lines of text, `OPERATION K INPUT.. = ANSWER..`, and what an annotator answers.
+//! The format is explained in the kit's README.
+
+use crate::sheet::sheet;
+use crate::{Order, Refusal, Verdict};
+
+/// The operations of the paper, as a case calls them.
+pub trait Annotator {
+    fn read(&self, record: &[u8]) -> Result<u32, Refusal>;
+    /// `None` if the annotator does not give the waits before closure.
+    fn waits(&self, record: &[u8]) -> Option<Result<Order, Refusal>>;
+    fn order(&self, record: &[u8]) -> Result<Order, Refusal>;
+    fn after(&self, record: &[u8], goal: u32) -> Result<u32, Refusal>;
+    fn form(&self, record: &[u8], out: &mut [u8]) -> Result<u32, Refusal>;
+    fn form_length(&self, record: &[u8]) -> Result<u32, Refusal>;
+    fn mel(&self, record: &[u8], out: &mut [u8]) -> Result<u32, Refusal>;
+    /// Place and length.
+    fn goal_text(&self, record: &[u8], goal: u32) -> Result<(u32, u32), Refusal>;
+    fn check(&self, record: &[u8], text: &[u8]) -> Result<Verdict, Refusal>;
+}
+
+/// The annotator of this crate.
+pub struct Reference;
+
+impl Annotator for Reference {
+    fn read(&self, record: &[u8]) -> Result<u32, Refusal> {
+        crate::read(record)
+    }
+    fn waits(&self, record: &[u8]) -> Option<Result<Order, Refusal>> {
+        Some(crate::waits(record))
+    }
+    fn order(&self, record: &[u8]) -> Result<Order, Refusal> {
+        crate::order(record)
+    }
+    fn after(&self, record: &[u8], goal: u32) -> Result<u32, Refusal> {
+        crate::after(record, goal)
+    }
+    fn form(&self, record: &[u8], out: &mut [u8]) -> Result<u32, Refusal> {
+        crate::form(record, out)
+    }
+    fn form_length(&self, record: &[u8]) -> Result<u32, Refusal> {
+        crate::form_length(record)
+    }
+    fn mel(&self, record: &[u8], out: &mut [u8]) -> Result<u32, Refusal> {
+        crate::mel(record, out)
+    }
+    fn goal_text(&self, record: &[u8], goal: u32) -> Result<(u32, u32), Refusal> {
+        crate::goal_text(record, goal)
+    }
+    fn check(&self, record: &[u8], text: &[u8]) -> Result<Verdict, Refusal> {
+        crate::check(record, text)
+    }
+}
+
+/// Bytes in hexadecimal, `-` where there are none.
+pub fn hex(bytes: &[u8]) -> String {
+    if bytes.is_empty() {
+        return "-".to_string();
+    }
+    bytes.iter().map(|byte| format!("{byte:02x}")).collect()
+}
+
+/// The other way round.
+pub fn unhex(text: &str) -> Result<Vec<u8>, String> {
+    if text == "-" {
+        return Ok(Vec::new());
+    }
+    let digits = text.as_bytes();
+    if digits.len() % 2 == 1 {
+        return Err(format!("an odd number of hexadecimal digits: {text}"));
+    }
+    let value = |digit: u8| (digit as char).to_digit(16).ok_or(format!("not hexadecimal: {text}"));
+    digits.chunks(2).map(|two| Ok((value(two[0])? << 4 | value(two[1])?) as u8)).collect()
+}
+
+/// A refusal as an answer.
+pub fn refused(refusal: Refusal) -> String {
+    let mut line = format!("refused {} {}", refusal.number, refusal.place);
+    if refusal.number == 13 {
+        for goal in refusal.goals {
+            line += &format!(" {goal}");
+        }
+    }
+    line
+}
+
+fn rows(order: Order) -> String {
+    let mut line = format!("ok {}", order.goals);
+    for row in &order.rows[..order.goals] {
+        line += &format!(" {row:08x}");
+    }
+    line
+}
+
+/// Calls a writer with a buffer of `room` bytes and says what it left there. A byte that
+/// should have been kept and was not is an error.
+fn written(
+    room: usize,
+    write: impl FnOnce(&mut [u8]) -> Result<u32, Refusal>,
+) -> Result<Result<String, Refusal>, String> {
+    const KEPT: u8 = 0xa5;
+    let mut out = vec![KEPT; room];
+    let answer = write(&mut out);
+    let length = *answer.as_ref().unwrap_or(&0) as usize;
+    if length > room || out[length..].iter().any(|byte| *byte != KEPT) {
+        return Err("a byte behind the text was changed".to_string());
+    }
+    Ok(answer.map(|_| format!("ok {length} {}", hex(&out[..length]))))
+}
+
+/// What the annotator answers to `OPERATION K INPUT..`. `skip` for what it does not offer.
+/// The estimate is one number, where the case has the least and the most it may be.
+pub fn answer(annotator: &impl Annotator, question: &str) -> Result<String, String> {
+    let words: Vec<&str> = question.split(' ').collect();
+    let field = |at: usize| words.get(at).copied().ok_or(format!("too short: {question}"));
+    let bytes = |at: usize| unhex(field(at)?);
+    let number = |at: usize| field(at)?.parse::<u32>().map_err(|e| format!("{e}: {question}"));
+    if field(1)? != "0" {
+        return Ok("skip".to_string());
+    }
+    let record = bytes(2)?;
+    let answer = match field(0)? {
+        "read" => annotator.read(&record).map(|_| "ok".to_string()),
+        "waits" => match annotator.waits(&record) {
+            Some(waits) => waits.map(rows),
+            None => Ok("skip".to_string()),
+        },
+        "order" => annotator.order(&record).map(rows),
+        "after" => annotator.after(&record, number(3)?).map(|set| format!("ok {set:08x}")),
+        "form" => written(number(3)? as usize, |out| annotator.form(&record, out))?,
+        "length" => annotator.form_length(&record).map(|length| format!("ok {length}")),
+        "mel" => written(number(3)? as usize, |out| annotator.mel(&record, out))?,
+        "text" => annotator.goal_text(&record, number(3)?).map(|(place, length)| {
+            let text = &record[place as usize..][..length as usize];
+            format!("ok {place} {length} {}", hex(text))
+        }),
+        "check" => annotator.check(&record, &bytes(3)?).map(|verdict| match verdict {
+            Verdict::Same => "same".to_string(),
+            Verdict::Differs(i, j) => format!("differs {i} {j}"),
+        }),
+        "sheet" => Ok(format!("ok {}", hex(&sheet(annotator, &record)))),
+        other => return Err(format!("no operation is called {other}")),
+    };
+    Ok(answer.unwrap_or_else(refused))
+}
+
+/// Does an answer meet the expected one? The estimate may be any number of a range.
+pub fn meets(question: &str, answer: &str, expected: &str) -> bool {
+    let range = |text: &str| -> Option<(u32, u32)> {
+        let (least, most) = text.strip_prefix("ok ")?.split_once(' ')?;
+        Some((least.parse().ok()?, most.parse().ok()?))
+    };
+    if question.starts_with("length ") {
+        let given = answer.strip_prefix("ok ").and_then(|number| number.parse().ok());
+        if let (Some((least, most)), Some(given)) = (range(expected), given) {
+            return (least..=most).contains(&given);
+        }
+    }
+    answer == expected
+}
+
+/// How the answers to a list of cases came out.
+#[derive(Default, Debug, PartialEq, Eq)]
+pub struct Tally {
+    pub agree: usize,
+    pub differ: usize,
+    pub skipped: usize,
+}
+
+/// Runs every case of a file's text; `report` gets line number, question, expected answer
+/// and given answer of each difference. Empty lines and lines that start with `#` are left out.
+pub fn run(
+    annotator: &impl Annotator,
+    text: &str,
+    mut report: impl FnMut(usize, &str, &str, &str),
+) -> Result<Tally, String> {
+    let mut tally = Tally::default();
+    for (number, line) in text.lines().enumerate() {
+        if line.is_empty() || line.starts_with('#') {
+            continue;
+        }
+        let (question, expected) =
+            line.split_once(" = ").ok_or(format!("line {}: no ' = '", number + 1))?;
+        let given = answer(annotator, question).map_err(|e| format!("line {}: {e}", number + 1))?;
+        if given == "skip" {
+            tally.skipped += 1;
+        } else if meets(question, &given, expected) {
+            tally.agree += 1;
+        } else {
+            tally.differ += 1;
+            report(number + 1, question, expected, &given);
+        }
+    }
+    Ok(tally)
+}

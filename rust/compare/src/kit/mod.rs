@@ -1,0 +1,168 @@
+//! The conformance kit's cases, file by file. The answers are the hand-written annotator's;
+//! where the paper prints an answer, it is stated here too and the two are compared.
+
+mod check;
+mod order;
+mod paper;
+mod record;
+mod texts;
+
+use crate::build::Parts;
+use crate::cases::{Reference, answer, hex};
+use std::collections::HashSet;
+
+/// The file of one group of cases.
+pub struct File {
+    pub name: &'static str,
+    pub text: String,
+    pub cases: usize,
+}
+
+/// Collects the lines of a file.
+pub(crate) struct Lines {
+    file: File,
+    asked: HashSet<String>,
+}
+
+impl Lines {
+    fn new(name: &'static str, about: &str) -> Lines {
+        let file = File { name, text: format!("# {about}\n"), cases: 0 };
+        Lines { file, asked: HashSet::new() }
+    }
+
+    /// A heading: what the next cases test.
+    fn note(&mut self, words: &str) {
+        self.file.text += &format!("\n# {words}\n");
+    }
+
+    /// A case with the hand-written annotator's answer. The same question is asked once.
+    fn ask(&mut self, question: String) -> String {
+        let mut given = answer(&Reference, &question).expect("a question of the kit");
+        if question.starts_with("length ") && given.starts_with("ok ") {
+            given += " 160";
+        }
+        if self.asked.insert(question.clone()) {
+            self.file.text += &format!("{question} = {given}\n");
+            self.file.cases += 1;
+        }
+        given
+    }
+
+    /// A case whose answer the paper or a settled reading prints.
+    fn expect(&mut self, question: String, expected: &str) {
+        let given = self.ask(question.clone());
+        assert_eq!(given, expected, "{question}");
+    }
+
+    fn read(&mut self, record: &[u8]) -> String {
+        self.ask(format!("read 0 {}", hex(record)))
+    }
+
+    fn waits(&mut self, parts: &Parts) {
+        self.ask(format!("waits 0 {}", hex(&parts.record())));
+    }
+
+    fn order(&mut self, parts: &Parts) {
+        self.ask(format!("order 0 {}", hex(&parts.record())));
+    }
+
+    fn form(&mut self, parts: &Parts, room: usize) -> String {
+        self.ask(format!("form 0 {} {room}", hex(&parts.record())))
+    }
+
+    fn length(&mut self, parts: &Parts) {
+        self.ask(format!("length 0 {}", hex(&parts.record())));
+    }
+
+    fn mel(&mut self, parts: &Parts, room: usize) -> String {
+        self.ask(format!("mel 0 {} {room}", hex(&parts.record())))
+    }
+
+    fn goal_text(&mut self, parts: &Parts, goal: u32) {
+        self.ask(format!("text 0 {} {goal}", hex(&parts.record())));
+    }
+
+    fn check(&mut self, parts: &Parts, text: &[u8]) -> String {
+        self.ask(format!("check 0 {} {}", hex(&parts.record()), hex(text)))
+    }
+
+    fn sheet(&mut self, input: &[u8]) {
+        self.ask(format!("sheet 0 {}", hex(input)));
+    }
+
+    /// The text that a writer gives, with room enough.
+    fn expect_form(&mut self, parts: &Parts, text: &str) {
+        let question = format!("form 0 {} 146", hex(&parts.record()));
+        self.expect(question, &format!("ok {} {}", text.len(), hex(text.as_bytes())));
+    }
+
+    fn expect_mel(&mut self, parts: &Parts, text: &str) {
+        let question = format!("mel 0 {} 400", hex(&parts.record()));
+        self.expect(question, &format!("ok {} {}", text.len(), hex(text.as_bytes())));
+    }
+
+    fn expect_check(&mut self, parts: &Parts, text: &str, expected: &str) {
+        let question = format!("check 0 {} {}", hex(&parts.record()), hex(text.as_bytes()));
+        self.expect(question, expected);
+    }
+
+    fn expect_read(&mut self, record: &[u8], expected: &str) {
+        self.expect(format!("read 0 {}", hex(record)), expected);
+    }
+}
+
+/// The pairs (i, j) with i < j of the goals 1 to `goals`.
+fn all_pairs(goals: usize) -> Vec<(usize, usize)> {
+    (1..=goals).flat_map(|i| (i + 1..=goals).map(move |j| (i, j))).collect()
+}
+
+/// One clause for each order on so many goals that waits can give.
+fn every_order(goals: usize) -> Vec<Parts> {
+    let all = all_pairs(goals);
+    let mut seen = HashSet::new();
+    let mut clauses = Vec::new();
+    for chosen in 0..1u32 << all.len() {
+        let picked = all.iter().enumerate().filter(|(at, _)| chosen >> at & 1 == 1);
+        let waits: Vec<(usize, usize)> = picked.map(|(_, pair)| *pair).collect();
+        let parts = Parts::with_waits(goals, &waits).expect("few pairs");
+        let order = crate::order(&parts.record()).expect("well formed");
+        if seen.insert(order.rows) {
+            clauses.push(parts);
+        }
+    }
+    clauses
+}
+
+/// A clause in which just these goals wait.
+fn waiting(goals: usize, waits: &[(usize, usize)]) -> Parts {
+    Parts::with_waits(goals, waits).expect("few pairs")
+}
+
+/// Every file of the kit.
+pub fn files() -> Vec<File> {
+    let lines = vec![
+        paper::drafts(),
+        paper::readings(),
+        record::header(),
+        record::goals(),
+        record::pairs(),
+        record::which_first(),
+        order::two_goals(),
+        order::closure(),
+        order::forms(),
+        order::no_form(),
+        order::estimate(),
+        texts::mel_stages(),
+        texts::mel_checks(),
+        texts::mel_long(),
+        texts::buffers(),
+        texts::goal_texts(),
+        check::grammar(),
+        check::numbers(),
+        check::verdicts(),
+        texts::sheets(),
+        paper::samples(),
+        paper::mixed(),
+    ];
+    lines.into_iter().map(|lines| lines.file).collect()
+}

@@ -1,0 +1,303 @@
+//! The paper's drafts, the settled readings, the samples, and a mixture.
+
+use super::{Lines, waiting};
+use crate::build::Parts;
+use crate::cases::hex;
+use crate::generate::{self, Random, padded};
+
+/// 01's whole case.
+pub(super) fn whole_case() -> Parts {
+    let mut parts = Parts::over(3, &[1, 6, 5]);
+    parts.head = 3;
+    for (goal, text) in parts.goals.iter_mut().zip(["half", "edge", "join"]) {
+        goal.1 = text.as_bytes().to_vec();
+    }
+    parts.pairs = vec![(0, 1), (0, 2)];
+    parts
+}
+
+/// Head {0,1}, goals {0,1}, {0,2}, {0}, {1,2}, no facts.
+fn of_document_003() -> Parts {
+    let mut parts = Parts::over(3, &[0b011, 0b101, 0b001, 0b110]);
+    parts.head = 0b011;
+    parts
+}
+
+fn no_form(goals: [u8; 4]) -> String {
+    let [a, b, c, d] = goals;
+    format!("refused 13 0 {a} {b} {c} {d}")
+}
+
+pub(super) fn drafts() -> Lines {
+    let mut lines =
+        Lines::new("drafts", "The draft clauses that the paper prints, and a few more.");
+    lines.note("the whole case, 67 bytes");
+    let sheet = "goals 3\n1 half\n2 edge\n3 join\nform (1&2),3\nmel (1&2),3\n";
+    let record = whole_case().record();
+    lines.expect(format!("sheet 0 {}", hex(&record)), &format!("ok {}", hex(sheet.as_bytes())));
+    lines.expect_form(&whole_case(), "(1&2),3");
+    lines.expect_mel(&whole_case(), "(1&2),3");
+
+    lines.note("one goal; goal count 0 or 33 is refusal 4");
+    lines.expect_form(&waiting(1, &[]), "1");
+    for count in [0, 33] {
+        let mut record = waiting(1, &[]).record();
+        record[5] = count;
+        lines.expect_read(&record, "refused 4 5");
+    }
+    lines.note("waits, given before closure, and the form");
+    lines.expect_form(&waiting(3, &[(1, 3)]), "(1,3)&2");
+    lines.expect_form(&waiting(3, &[(1, 2), (2, 3)]), "1,2,3");
+    lines.expect_form(&waiting(3, &[]), "1&2&3");
+    lines.expect_form(&waiting(4, &[(1, 3), (2, 3), (2, 4), (3, 4)]), "(1&2),3,4");
+    lines.expect_form(&waiting(3, &[(2, 3)]), "1&(2,3)");
+    lines.expect_form(&waiting(5, &[(2, 5), (3, 4)]), "1&(2,5)&(3,4)");
+    lines.expect_form(&waiting(4, &[(1, 3), (1, 4), (2, 4), (3, 4)]), "((1,3)&2),4");
+    lines.note("waits without a form: refusal 13 with its four goals");
+    for (waits, goals) in
+        [([(1, 3), (2, 3), (2, 4)], [1, 2, 3, 4]), ([(1, 3), (1, 4), (2, 4)], [2, 1, 4, 3])]
+    {
+        let record = waiting(4, &waits).record();
+        lines.expect(format!("form 0 {} 146", hex(&record)), &no_form(goals));
+        lines.expect(format!("length 0 {}", hex(&record)), &no_form(goals));
+    }
+    lines.note("the clause of document 003");
+    lines.expect_form(&of_document_003(), "1,2,3,4");
+    let mel = "(ground(v0)=>1&2),(indep(v0,v1),indep(v0,v2)=>3&4)";
+    lines.expect_mel(&of_document_003(), mel);
+    lines.note("head {0}, ground {0}, goals {0}, {0}");
+    let mut ground = Parts::over(1, &[1, 1]);
+    ground.ground = 1;
+    lines.expect_form(&ground, "1&2");
+    lines.expect_mel(&ground, "(1&2)");
+    lines.note("checks, where goal 1 is before goal 2");
+    let chain = waiting(2, &[(1, 2)]);
+    for (text, expected) in [
+        ("((1)),2", "same"),
+        ("2&1", "differs 1 2"),
+        ("1,,2", "refused 16 2"),
+        ("01", "refused 16 0"),
+        ("1,1", "refused 17 2"),
+        ("1", "refused 17 1"),
+    ] {
+        lines.expect_check(&chain, text, expected);
+    }
+    lines.note("a goal's text of 40 bytes is read, of 41 refused");
+    for (length, expected) in [(40, "ok"), (41, "refused 9 32")] {
+        let mut parts = waiting(1, &[]);
+        parts.goals[0].1 = vec![b'x'; length];
+        lines.expect_read(&parts.record(), expected);
+    }
+    lines.note("512 bytes of expression are read, 513 refused");
+    let text = padded(b"1&2&3&4&5&6&7&8&9&10", 512);
+    let ten = waiting(10, &[]);
+    assert_eq!(lines.check(&ten, &text), "same");
+    assert_eq!(lines.check(&ten, &[&text[..], b")"].concat()), "refused 15 0");
+    lines
+}
+
+pub(super) fn readings() -> Lines {
+    let mut lines =
+        Lines::new("readings", "Where a reader of the paper can go wrong: each wrong reading.");
+    record_readings(&mut lines);
+    check_readings(&mut lines);
+    form_readings(&mut lines);
+    mel_readings(&mut lines);
+    lines
+}
+
+fn record_readings(lines: &mut Lines) {
+    lines
+        .note("a text that is cut off is 7, although a byte of the part present is bad (wrong: 9)");
+    let mut parts = waiting(2, &[]);
+    parts.goals[0].1 = b"ab cd".to_vec();
+    let record = parts.record();
+    lines.expect_read(&record[..36], "refused 7 36");
+    lines.expect_read(&record[..37], "refused 7 37");
+    lines.expect_read(&record[..38], "refused 9 35");
+    lines.note("a bad length byte is 9, although the record ends there (wrong: 7)");
+    for length in [0, 41, 255] {
+        let mut record = waiting(1, &[]).record();
+        record.truncate(33);
+        record[32] = length;
+        lines.expect_read(&record, "refused 9 32");
+    }
+    lines.note("10 has one place, the pair's first byte, for all three faults (wrong: the second)");
+    let mut parts = waiting(3, &[]);
+    let place = parts.record().len() - 2;
+    for pair in [(2, 1), (1, 1), (0, 3), (0, 2), (1, 255)] {
+        parts.pairs[2] = pair;
+        lines.expect_read(&parts.record(), &format!("refused 10 {place}"));
+    }
+    lines.note("a goal number is compared whole (wrong: its low byte or 16 bits)");
+    let record = hex(&waiting(3, &[]).record());
+    for goal in [0, 4, 256, 257, 259, 65_537, 65_539, 16_777_217, 2_147_483_649, u32::MAX] {
+        lines.expect(format!("text 0 {record} {goal}"), "refused 14 0");
+    }
+    lines.note("the order has the record's refusals alone (wrong: 13 for a clause without a form)");
+    lines.order(&waiting(4, &[(1, 3), (2, 3), (2, 4)]));
+}
+
+fn check_readings(lines: &mut Lines) {
+    let chain = waiting(2, &[(1, 2)]);
+    lines.note("16 is decided over the whole text before 17 (wrong: 17 at the first bad number)");
+    lines.expect_check(&chain, "1,1,,", "refused 16 4");
+    lines.expect_check(&chain, "3,,", "refused 16 2");
+    lines.expect_check(&chain, "99&(1", "refused 16 5");
+    lines.note("33 to 99 are numbers of the grammar (wrong: 16); 100 is 16 at its third digit");
+    lines.expect_check(&chain, "33", "refused 17 0");
+    lines.expect_check(&chain, "1,99,2", "refused 17 2");
+    lines.expect_check(&chain, "100", "refused 16 2");
+    lines.expect_check(&chain, "0", "refused 16 0");
+    lines.expect_check(&chain, "1,02", "refused 16 2");
+    lines.expect_check(&chain, "10,20", "refused 17 0");
+    lines.note("spare parentheses count as open; the 33rd is 16 at its byte");
+    let nested = |deep: usize| "(".repeat(deep) + "1" + &")".repeat(deep);
+    let one = waiting(1, &[]);
+    lines.expect_check(&one, &nested(32), "same");
+    lines.expect_check(&one, &nested(33), "refused 16 32");
+    lines.expect_check(&one, &("(".repeat(40) + "x"), "refused 16 32");
+    lines.note("at most 32 at a time, not in all (wrong: counting every parenthesis)");
+    let ten = waiting(10, &[]);
+    let text = padded(b"1&2&3&4&5&6&7&8&9&10", 512);
+    assert_eq!(lines.check(&ten, &text), "same");
+    lines.note("one member is the member itself");
+    for text in ["((1)),2", "(1),(2)", "(1,2)", "((1),((2)))"] {
+        lines.expect_check(&chain, text, "same");
+    }
+    lines.note("i may be above j (wrong: only i below j is compared, which says same)");
+    lines.expect_check(&waiting(2, &[]), "2,1", "differs 2 1");
+    lines.expect_check(&waiting(3, &[]), "3,(1&2)", "differs 3 1");
+    lines.expect_check(&chain, "2,1", "differs 1 2");
+    lines.note("a clause without a form is compared like any other (wrong: 13)");
+    let none = waiting(4, &[(1, 3), (2, 3), (2, 4)]);
+    lines.expect_check(&none, "(1&2),(3&4)", "differs 1 4");
+    lines.note("nested sequences and groups mean what the flat ones do");
+    lines.expect_check(&waiting(3, &[(1, 2), (2, 3)]), "1,(2,3)", "same");
+    lines.expect_check(&waiting(3, &[]), "(3&2)&1", "same");
+}
+
+fn form_readings(lines: &mut Lines) {
+    lines.note("the closure is taken first (wrong: 1-2, 2-3 looks like a loss)");
+    lines.expect_form(&waiting(3, &[(1, 2), (2, 3)]), "1,2,3");
+    lines.expect_form(&waiting(4, &[(1, 2), (2, 3), (3, 4)]), "1,2,3,4");
+    lines.note("predecessor sets may overlap where one holds the other (wrong: 13)");
+    lines.expect_form(&waiting(4, &[(1, 3), (1, 4), (2, 4), (3, 4)]), "((1,3)&2),4");
+    lines.expect_form(&waiting(4, &[(1, 3), (2, 3), (2, 4), (3, 4)]), "(1&2),3,4");
+    lines.note("group members ascend by their smallest goal (wrong: by their number of goals)");
+    lines.expect_form(&waiting(3, &[(2, 3)]), "1&(2,3)");
+    lines.expect_form(&waiting(3, &[(1, 3)]), "(1,3)&2");
+    lines.expect_form(&waiting(5, &[(2, 5), (3, 4)]), "1&(2,5)&(3,4)");
+    lines.note("a shared ground variable is no wait");
+    let mut ground = Parts::over(2, &[1, 3]);
+    ground.ground = 1;
+    lines.expect_form(&ground, "1&2");
+    lines.note("13 names the first four by a, then b, c, d, though there are several");
+    let several = waiting(6, &[(1, 4), (2, 4), (2, 5), (3, 5), (3, 6)]);
+    lines.expect(format!("form 0 {} 146", hex(&several.record())), &no_form([1, 2, 4, 5]));
+    lines.expect(format!("length 0 {}", hex(&several.record())), &no_form([1, 2, 4, 5]));
+    lines.note("13 comes before 12");
+    lines.expect(format!("form 0 {} 0", hex(&several.record())), &no_form([1, 2, 4, 5]));
+    lines.note("only MEL knows first occurrences: head {0}, goals {0}, {1}");
+    let mut fresh = Parts::over(2, &[0b01, 0b10]);
+    fresh.head = 1;
+    lines.expect_form(&fresh, "1,2");
+    lines.expect_mel(&fresh, "(1&2)");
+    lines.note("the longest form has 146 bytes");
+    let longest = Parts::longest_form();
+    assert!(lines.form(&longest, 146).starts_with("ok 146 "));
+    lines.expect(format!("form 0 {} 145", hex(&longest.record())), "refused 12 146");
+}
+
+fn mel_readings(lines: &mut Lines) {
+    lines.note("pairs are lower first, whichever goal holds the lower (wrong: goal order)");
+    lines.expect_mel(&Parts::over(2, &[0b10, 0b01]), "(indep(v0,v1)=>1&2)");
+    lines.note("a pair is listed once (wrong: (v1,v0) beside (v0,v1))");
+    lines.expect_mel(&Parts::over(2, &[0b01, 0b10]), "(indep(v0,v1)=>1&2)");
+    lines.note("variables sort as numbers (wrong: v10 before v2)");
+    let mel = "(indep(v2,v10),indep(v2,v11),indep(v10,v11)=>1&2&3)";
+    lines.expect_mel(&Parts::over(12, &[1 << 2, 1 << 10, 1 << 11]), mel);
+    lines.expect_mel(&Parts::over(11, &[1 << 2 | 1 << 10; 2]), "(ground(v2),ground(v10)=>1&2)");
+    lines.note(
+        "a variable first met in the stage is not known there (wrong: known once its goal ran)",
+    );
+    let mut fresh = Parts::over(3, &[0b011, 0b100]);
+    fresh.head = 0b101;
+    lines.expect_mel(&fresh, "(indep(v0,v2)=>1&2)");
+    lines.note("a variable met in an earlier stage is known");
+    let mut earlier = Parts::over(3, &[0b010, 0b010, 0b001]);
+    earlier.head = 0b001;
+    lines.expect_mel(&earlier, "1,(indep(v0,v1)=>2&3)");
+    lines.note("a known ground variable is in no check, though it is shared");
+    let mut ground = Parts::over(2, &[0b11, 0b01]);
+    ground.ground = 0b01;
+    lines.expect_mel(&ground, "(1&2)");
+    lines.note("a shared variable that has a ground check is in no pair");
+    lines.expect_mel(&Parts::over(3, &[0b011, 0b101]), "(ground(v0),indep(v1,v2)=>1&2)");
+    lines.note("a head variable ends no stage");
+    lines.expect_mel(&Parts::over(1, &[1, 1, 1]), "(ground(v0)=>1&2&3)");
+    lines.note("the place of 12 is a full-width number (wrong: 16 bits)");
+    let joining: Vec<u8> = (49..64).collect();
+    let long = Parts::in_stages(64, &[2; 16], &joining, false);
+    lines.expect(format!("mel 0 {} 0", hex(&long.record())), "refused 12 188354");
+}
+
+pub(super) fn samples() -> Lines {
+    let mut lines = Lines::new("samples", "The ten samples: what the sheet prints for each.");
+    for (name, text) in [
+        ("half-motif", include_str!("../../../../samples/half-motif.txt")),
+        ("document-003", include_str!("../../../../samples/document-003.txt")),
+        ("no-form", include_str!("../../../../samples/no-form.txt")),
+        ("deep-nesting", include_str!("../../../../samples/deep-nesting.txt")),
+        ("ground-facts", include_str!("../../../../samples/ground-facts.txt")),
+        ("three-stages", include_str!("../../../../samples/three-stages.txt")),
+        ("longest-form", include_str!("../../../../samples/longest-form.txt")),
+        ("long-mel", include_str!("../../../../samples/long-mel.txt")),
+        ("refused-cut", include_str!("../../../../samples/refused-cut.txt")),
+        ("refused-pair", include_str!("../../../../samples/refused-pair.txt")),
+    ] {
+        let about = text.lines().next().unwrap_or("").trim_start_matches("# ");
+        lines.note(&format!("{name}: {about}"));
+        let described = crate::describe::read(text).expect("a sample");
+        lines.sheet(&described.record);
+    }
+    lines
+}
+
+/// Seeded records and texts, valid and damaged, every operation.
+pub(super) fn mixed() -> Lines {
+    let mut lines =
+        Lines::new("mixed", "Seeded records and texts, valid and damaged, every operation.");
+    let mut random = Random::new(7);
+    for case in 0..400 {
+        let mut record = loop {
+            let record = generate::parts(&mut random).record();
+            if record.len() < 900 {
+                break record;
+            }
+        };
+        let goals = record[5] as usize;
+        let mut form = [0; crate::FORM_LIMIT];
+        let length = crate::form(&record, &mut form).unwrap_or(0) as usize;
+        let mut mel = vec![0; 1 << 18];
+        let mel = crate::mel(&record, &mut mel).unwrap_or(0) as usize;
+        let text = generate::text(&mut random, goals, &form[..length]);
+        if random.chance(1, 4) {
+            generate::damage(&mut random, &mut record);
+        }
+        let record = hex(&record);
+        let question = match case % 8 {
+            0 => format!("order 0 {record}"),
+            1 => format!("form 0 {record} {}", generate::room(&mut random, length)),
+            2 => format!("length 0 {record}"),
+            3 if mel < 1000 => format!("mel 0 {record} {}", generate::room(&mut random, mel)),
+            3 => format!("mel 0 {record} {}", random.below(mel)),
+            4 => format!("text 0 {record} {}", random.below(goals + 2)),
+            5 if mel < 1000 => format!("sheet 0 {record}"),
+            5 => format!("waits 0 {record}"),
+            _ => format!("check 0 {record} {}", hex(&text)),
+        };
+        lines.ask(question);
+    }
+    lines
+}

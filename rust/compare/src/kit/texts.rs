@@ -1,0 +1,192 @@
+//! MEL, lent buffers, goal texts and the sheet.
+
+use super::paper::whole_case;
+use super::{Lines, waiting};
+use crate::build::Parts;
+use crate::cases::{hex, unhex};
+use crate::generate::Random;
+
+pub(super) fn mel_stages() -> Lines {
+    let mut lines = Lines::new("mel-stages", "MEL: where stages end.");
+    lines.note("three goals over two variables, every head");
+    for sets in 0..64u64 {
+        for head in 0..4 {
+            let mut parts = Parts::over(2, &[sets & 3, sets >> 2 & 3, sets >> 4]);
+            parts.head = head;
+            lines.mel(&parts, 400);
+        }
+    }
+    lines.note("five goals, each two in a row share a variable outside the head, or not");
+    for shared in 0..16u64 {
+        let mut sets = [1u64; 5];
+        for joint in 0..4 {
+            if shared >> joint & 1 == 1 {
+                sets[joint] |= 2 << joint;
+                sets[joint + 1] |= 2 << joint;
+            }
+        }
+        let mut parts = Parts::over(5, &sets);
+        parts.head = 1;
+        lines.mel(&parts, 400);
+    }
+    lines.note("a variable that occurs again only much later");
+    for later in 1..8 {
+        let mut sets = [0u64; 8];
+        sets[0] = 1;
+        sets[later] = 1;
+        let mut parts = Parts::over(1, &sets);
+        parts.head = 0;
+        lines.mel(&parts, 400);
+    }
+    lines
+}
+
+pub(super) fn mel_checks() -> Lines {
+    let mut lines = Lines::new("mel-checks", "MEL: the checks of a stage and what is dropped.");
+    lines.note("two goals over two variables: every head, ground set and list of pairs");
+    for sets in 0..16u64 {
+        for head in 0..4u64 {
+            for ground in (0..4u64).filter(|ground| ground & !head == 0) {
+                for listed in [false, true] {
+                    let mut parts = Parts::over(2, &[sets & 3, sets >> 2]);
+                    (parts.head, parts.ground) = (head, ground);
+                    parts.pairs = if listed { vec![(0, 1)] } else { Vec::new() };
+                    lines.mel(&parts, 400);
+                }
+            }
+        }
+    }
+    lines.note("seeded clauses of up to 12 goals and variables");
+    let mut random = Random::new(17);
+    for _ in 0..150 {
+        let (goals, variables) = (random.between(2, 12), random.between(1, 12));
+        let all = (1u64 << variables) - 1;
+        let sets: Vec<u64> =
+            (0..goals).map(|_| all & random.word() & random.word() & random.word()).collect();
+        let mut parts = Parts::over(variables as u8, &sets);
+        parts.head = all & (random.word() | random.word());
+        parts.ground = parts.head & random.word() & random.word();
+        for x in 0..variables as u8 {
+            let higher = (x + 1..variables as u8).filter(|_| random.chance(1, 3));
+            parts.pairs.extend(higher.map(|y| (x, y)));
+        }
+        lines.mel(&parts, 1200);
+    }
+    lines.note("variables of two digits");
+    for (x, y) in [(9, 10), (0, 63), (10, 63), (8, 9), (2, 10)] {
+        lines.mel(&Parts::over(64, &[1 << x, 1 << y]), 400);
+        lines.mel(&Parts::over(64, &[1 << x | 1 << y; 2]), 400);
+    }
+    lines
+}
+
+/// The clauses of the vectors whose annotations have 32,768 and 32,769 bytes.
+fn at_the_limit() -> Vec<Parts> {
+    let vectors = include_str!("../../../../kit/vectors/base.txt");
+    let mut found = Vec::new();
+    for wanted in ["refused 12 32768", "refused 12 32769"] {
+        let mut lines = vectors.lines().filter(|line| line.starts_with("mel 0 "));
+        let line = lines.find(|line| line.ends_with(wanted)).expect("a vector");
+        let record = unhex(line.split(' ').nth(2).expect("a record")).expect("hexadecimal");
+        found.push(Parts::of(&record).expect("well formed"));
+    }
+    found
+}
+
+pub(super) fn mel_long() -> Lines {
+    let mut lines = Lines::new("mel-long", "MEL: long annotations, and the length that 12 names.");
+    lines.note("32,768 and 32,769 bytes: the sheet prints the first and not the second");
+    for parts in at_the_limit() {
+        for room in [0, 1, 32_767, 32_768] {
+            lines.mel(&parts, room);
+        }
+        lines.sheet(&parts.record());
+    }
+    lines.note("188,354 and 192,127 bytes");
+    let joining: Vec<u8> = (49..64).collect();
+    for (parts, length) in [
+        (Parts::in_stages(64, &[2; 16], &joining, false), 188_354),
+        (Parts::longest_mel(), 192_127),
+    ] {
+        for room in [0, 32_768, 65_536, length % 65_536, length - 1] {
+            lines.expect(
+                format!("mel 0 {} {room}", hex(&parts.record())),
+                &format!("refused 12 {length}"),
+            );
+        }
+    }
+    lines.note("one stage of 2 to 32 goals that holds all 64 variables, no room");
+    for goals in 2..=32 {
+        lines.mel(&Parts::in_stages(64, &[goals], &[], false), 0);
+    }
+    lines
+}
+
+pub(super) fn buffers() -> Lines {
+    let mut lines = Lines::new("buffers", "Lent buffers: refusal 12, and bytes that are kept.");
+    lines.note("form: every room up to the length and a few more");
+    for (goals, waits) in [(1, &[][..]), (3, &[(1, 3)][..]), (11, &[(1, 11)][..])] {
+        let parts = waiting(goals, waits);
+        let length = crate::form_length(&parts.record()).expect("a form") as usize;
+        for room in (0..=length + 3).chain([1000]) {
+            lines.form(&parts, room);
+        }
+    }
+    lines.note("MEL: every room up to the length and a few more");
+    for parts in [waiting(2, &[(1, 2)]), whole_case(), Parts::over(1, &[1, 1, 1])] {
+        let mut out = [0; 100];
+        let length = crate::mel(&parts.record(), &mut out).expect("room enough") as usize;
+        for room in (0..=length + 3).chain([1000]) {
+            lines.mel(&parts, room);
+        }
+    }
+    lines
+}
+
+pub(super) fn goal_texts() -> Lines {
+    let mut lines = Lines::new("goal-text", "Goal texts: the part of the record, and refusal 14.");
+    let mut parts = waiting(4, &[]);
+    for (goal, text) in parts.goals.iter_mut().zip(["x", "#hidden", "~", "!"]) {
+        goal.1 = text.as_bytes().to_vec();
+    }
+    parts.goals[2].1 = vec![b'~'; 40];
+    let many = Parts::over(1, &[1; 32]);
+    for goal in 0..=5 {
+        lines.goal_text(&parts, goal);
+        lines.goal_text(&waiting(1, &[]), goal);
+        lines.goal_text(&whole_case(), goal);
+    }
+    for goal in 0..=34 {
+        lines.goal_text(&many, goal);
+    }
+    for goal in [255, 256, 257, 288, 65_536, 65_537, 1 << 31, u32::MAX] {
+        lines.goal_text(&parts, goal);
+        lines.goal_text(&many, goal);
+    }
+    lines
+}
+
+pub(super) fn sheets() -> Lines {
+    let mut lines = Lines::new("sheet", "The printed sheet, from standard input.");
+    lines.note("the whole case, cut at every length and with bytes behind it");
+    let record = whole_case().record();
+    for length in 0..=record.len() {
+        lines.sheet(&record[..length]);
+    }
+    for more in [1, 100, 4096 - 67, 4096 - 66, 5000] {
+        let mut input = record.clone();
+        input.extend(vec![0; more]);
+        lines.sheet(&input);
+    }
+    lines.note("form and no form");
+    for goals in 1..=4 {
+        for parts in super::every_order(goals) {
+            lines.sheet(&parts.record());
+        }
+    }
+    lines.note("MEL too long to be printed");
+    lines.sheet(&Parts::longest_mel().record());
+    lines.note("the longest form");
+    lines.sheet(&Parts::longest_form().record());
+    lines
+}

@@ -1,0 +1,130 @@
+//! The waiting order.
+//!
+//! With a(i) the variables of goal i that are not ground, goals i and j are independent
+//! exactly if a(j) lies in the meet, over all x in a(i), of the variables listed with x:
+//! no variable is listed with itself, so a shared one that is not ground falls out too.
+//! One set a goal, found once, then answers for every other goal.
+
+use crate::numbers::{Members, first_goals};
+use crate::record::{Clause, GOAL_LIMIT};
+
+/// An order on goals 1 to `goals`: row i - 1 holds goal j at bit j - 1. Later rows are 0.
+#[derive(Clone, PartialEq, Eq, Debug)]
+pub struct Order {
+    pub goals: usize,
+    pub rows: [u32; GOAL_LIMIT],
+}
+
+/// Each goal's variables that are not ground, and those whose presence makes another wait.
+struct Ties {
+    free: [u64; GOAL_LIMIT],
+    ties: [u64; GOAL_LIMIT],
+    /// The goals with a variable that is not ground.
+    active: u32,
+}
+
+#[inline(always)]
+fn ties(clause: &Clause, from: usize) -> Ties {
+    let mut found = Ties { free: [0; GOAL_LIMIT], ties: [0; GOAL_LIMIT], active: 0 };
+    for goal in from..clause.goals {
+        let free = clause.sets[goal & 31] & !clause.ground;
+        let mut independent = u64::MAX;
+        for variable in Members(free) {
+            independent &= clause.listed[variable];
+            if independent == 0 {
+                break;
+            }
+        }
+        found.free[goal & 31] = free;
+        found.ties[goal & 31] = !independent;
+        found.active |= ((free != 0) as u32) << goal;
+    }
+    found
+}
+
+/// The goals above `goal` that wait for it.
+#[inline(always)]
+fn waiting(ties: &Ties, goal: usize, goals: usize) -> u32 {
+    let tie = ties.ties[goal & 31];
+    let mut row = 0;
+    for later in goal + 1..goals {
+        row |= ((ties.free[later & 31] & tie != 0) as u32) << later;
+    }
+    row
+}
+
+pub fn waits(clause: &Clause) -> Order {
+    let ties = ties(clause, 0);
+    let mut rows = [0; GOAL_LIMIT];
+    for goal in 0..clause.goals {
+        rows[goal & 31] = waiting(&ties, goal, clause.goals);
+    }
+    Order { goals: clause.goals, rows }
+}
+
+/// Without listed pairs all goals that hold a variable not ground wait for each other.
+#[inline(always)]
+fn chain(active: u32, goal: usize) -> u32 {
+    if active >> goal & 1 == 1 { active & (u32::MAX << goal << 1) } else { 0 }
+}
+
+#[inline(always)]
+fn after_from(clause: &Clause, from: usize) -> [u32; GOAL_LIMIT] {
+    let ties = ties(clause, from);
+    let mut rows = [0; GOAL_LIMIT];
+    for goal in (from..clause.goals).rev() {
+        rows[goal & 31] = if clause.pairs == 0 {
+            chain(ties.active, goal)
+        } else {
+            // Waits lead from lower to higher numbers, so the later rows are closed already.
+            let mut row = waiting(&ties, goal, clause.goals);
+            let mut left = row;
+            while left != 0 {
+                let next = rows[left.trailing_zeros() as usize];
+                row |= next;
+                left &= (left - 1) & !next;
+            }
+            row
+        };
+    }
+    rows
+}
+
+/// For each goal the goals that it is before.
+#[inline(always)]
+pub fn after(clause: &Clause) -> Order {
+    Order { goals: clause.goals, rows: after_from(clause, 0) }
+}
+
+/// The goals that one goal is before: goals left of it do not matter.
+#[inline(always)]
+pub fn after_goal(clause: &Clause, goal: usize) -> u32 {
+    after_from(clause, goal)[goal & 31]
+}
+
+/// For each goal the goals before it.
+#[inline(always)]
+pub fn before(clause: &Clause) -> [u32; GOAL_LIMIT] {
+    let ties = ties(clause, 0);
+    let mut rows = [0; GOAL_LIMIT];
+    for goal in 0..clause.goals {
+        let free = ties.free[goal & 31];
+        rows[goal & 31] = if clause.pairs == 0 {
+            if free != 0 { ties.active & first_goals(goal) } else { 0 }
+        } else {
+            let mut row = 0u32;
+            for earlier in 0..goal {
+                row |= ((ties.ties[earlier & 31] & free != 0) as u32) << earlier;
+            }
+            let mut left = row;
+            while left != 0 {
+                let last = 31 - left.leading_zeros() as usize;
+                let next = rows[last];
+                row |= next;
+                left &= !(1 << last | next);
+            }
+            row
+        };
+    }
+    rows
+}

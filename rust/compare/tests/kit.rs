@@ -1,0 +1,30 @@
+//! The kit's files are those that `kit-cases` writes, and the hand-written annotator agrees
+//! with every one.
+
+use compare::cases::{Reference, Tally, run};
+use compare::kit::files;
+use std::fs;
+use std::path::Path;
+
+#[test]
+fn the_files_are_up_to_date() {
+    let folder = Path::new(env!("CARGO_MANIFEST_DIR")).join("../../kit/cases");
+    let readme = fs::read_to_string(folder.join("../README.md")).unwrap();
+    let mut all = 0;
+    let files = files();
+    for file in &files {
+        let path = folder.join(format!("{}.txt", file.name));
+        let text = fs::read_to_string(&path).unwrap();
+        assert!(text == file.text, "{}: run kit-cases", path.display());
+        let tally = run(&Reference, &text, |_, _, _, _| ()).unwrap();
+        assert_eq!(tally, Tally { agree: file.cases, differ: 0, skipped: 0 }, "{}", file.name);
+        assert!(
+            readme.contains(&format!("`{}`", file.name)),
+            "README.md does not name {}",
+            file.name
+        );
+        all += file.cases;
+    }
+    assert_eq!(fs::read_dir(&folder).unwrap().count(), files.len());
+    assert!(all >= 2000);
+}

@@ -1,0 +1,28 @@
+//! The functions of the static library, as `include/lfj.h` declares them.
+//!
+//! Each answers one word: bits 56 to 63 the refusal's number, 0 if accepted; bits 0 to 31
+//! the refusal's place; with number 13 its four goals at bits 32, 38, 44 and 50, six bits
+//! each. What an accepted call answers stands with each function.
+//!
+//! # Safety
+//!
+//! Of each function: a pointer is not null, also where the length behind it is 0, and that
+//! many bytes may be read there; at `out` they may be written, and no other argument
+//! overlaps them.
+
+unsafe extern "C" {
+    /// The goal count.
+    pub fn lfj_read(record: *const u8, n: usize) -> u64;
+    /// The goals that `goal` is before, goal g at bit g - 1.
+    pub fn lfj_after(record: *const u8, n: usize, goal: u32) -> u64;
+    /// The length of the fork-join expression, which stands at `out`.
+    pub fn lfj_form(record: *const u8, n: usize, out: *mut u8, room: usize) -> u64;
+    /// The length estimate.
+    pub fn lfj_form_length(record: *const u8, n: usize) -> u64;
+    /// The length of the MEL annotation, which stands at `out`.
+    pub fn lfj_mel(record: *const u8, n: usize, out: *mut u8, room: usize) -> u64;
+    /// The place of the goal's text, and at bits 32 to 47 its length.
+    pub fn lfj_goal_text(record: *const u8, n: usize, goal: u32) -> u64;
+    /// 0 for the same order, else i at bits 0 to 7 and j at bits 8 to 15.
+    pub fn lfj_check(record: *const u8, n: usize, text: *const u8, m: usize) -> u64;
+}

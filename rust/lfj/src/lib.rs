@@ -1,0 +1,218 @@
+//! The proved annotator of half-motif clauses, for Rust.
+//!
+//! A record, the bytes that describe a clause, goes in; out come the goals' order, the
+//! fork-join expression without loss of parallelism, the MEL annotation, a goal's text, or
+//! the verdict on an expression. What is turned down comes back as a [`Refusal`], which
+//! says in words what was refused and where. The code behind these functions is proved;
+//! this crate only lends it slices, which is all that the proof asks of a caller.
+//!
+//! ```
+//! # fn main() -> Result<(), lfj::Refusal> {
+//! // Three goals: `half` over v0, `edge` over v1 and v2, `join` over v0 and v2.
+//! // v0 and v1, v0 and v2 are known to be independent.
+//! let mut record = b"LFJ\x00\x01\x03\x03\x02\0\0\0\0\0\0\0\x03\0\0\0\0\0\0\0\0".to_vec();
+//! for (variables, text) in [(0b001u64, "half"), (0b110, "edge"), (0b101, "join")] {
+//!     record.extend(variables.to_be_bytes());
+//!     record.push(text.len() as u8);
+//!     record.extend(text.bytes());
+//! }
+//! record.extend([0, 1, 0, 2]);
+//!
+//! assert_eq!(lfj::read(&record)?, 3);
+//! assert_eq!(lfj::form_text(&record)?, "(1&2),3");
+//! assert_eq!(lfj::mel_text(&record)?, "(1&2),3");
+//! assert_eq!(lfj::goal_text(&record, 2)?, b"edge");
+//! assert_eq!(lfj::check(&record, b"(2&1),3")?, lfj::Verdict::Same);
+//! # Ok(())
+//! # }
+//! ```
+
+pub mod c;
+mod refusal;
+
+pub use refusal::Refusal;
+
+/// The longest fork-join expression in house form, in bytes.
+pub const FORM_LIMIT: usize = 146;
+
+/// What [`check`] says of an expression.
+#[derive(Clone, Copy, PartialEq, Eq, Hash, Debug)]
+pub enum Verdict {
+    /// It has the record's order.
+    Same,
+    /// The first i, then j, for which just one of the two orders has goal i before goal j.
+    Differs(u8, u8),
+}
+
+/// An answer word: accepted, or the refusal in it.
+#[inline(always)]
+fn accepted(word: u64) -> Result<u64, Refusal> {
+    if word >> 56 == 0 { Ok(word) } else { Err(Refusal::of(word)) }
+}
+
+/// Reads a record: its goal count.
+///
+/// Refusals 1 to 11, which every other operation has too.
+///
+/// ```
+/// let refusal = lfj::read(b"no record at all, 31 bytes long").unwrap_err();
+/// assert_eq!(refusal.to_string(), "the record does not start with the letters LFJ (refusal 2)");
+/// ```
+#[inline]
+pub fn read(record: &[u8]) -> Result<u32, Refusal> {
+    // SAFETY: a slice's pointer is not null and its bytes may be read.
+    let word = unsafe { c::lfj_read(record.as_ptr(), record.len()) };
+    Ok(accepted(word)? as u32)
+}
+
+/// The set of goals that `goal` is before: goal g at bit g - 1.
+///
+/// Refusal 14 for a goal outside the record. [`members`] lists a set.
+///
+/// ```
+/// # let record = b"LFJ\0\x01\x03\x01\0\0\0\0\0\0\0\0\x01\0\0\0\0\0\0\0\0\
+/// #     \0\0\0\0\0\0\0\x01\x01a\0\0\0\0\0\0\0\0\x01b\0\0\0\0\0\0\0\x01\x01c";
+/// // Goals `a` over v0, `b` over nothing, `c` over v0.
+/// assert_eq!(lfj::after(record, 1), Ok(0b100));
+/// assert!(lfj::members(0b100).eq([3]));
+/// assert_eq!(lfj::after(record, 4).unwrap_err().number, 14);
+/// ```
+#[inline]
+pub fn after(record: &[u8], goal: u32) -> Result<u32, Refusal> {
+    // SAFETY: a slice's pointer is not null and its bytes may be read.
+    let word = unsafe { c::lfj_after(record.as_ptr(), record.len(), goal) };
+    Ok(accepted(word)? as u32)
+}
+
+/// The goals of a set, lowest first.
+pub fn members(set: u32) -> impl Iterator<Item = u32> {
+    (1..=32).filter(move |goal| set >> (goal - 1) & 1 == 1)
+}
+
+/// Writes the fork-join expression into the first bytes of `out`: its length. The other
+/// bytes stay. [`FORM_LIMIT`] bytes are always enough.
+///
+/// Refusal 13 if no expression has the clause's order, then 12 if `out` is too short.
+///
+/// ```
+/// # let record = b"LFJ\0\x01\x03\x01\0\0\0\0\0\0\0\0\x01\0\0\0\0\0\0\0\0\
+/// #     \0\0\0\0\0\0\0\x01\x01a\0\0\0\0\0\0\0\0\x01b\0\0\0\0\0\0\0\x01\x01c";
+/// // Goals `a` over v0, `b` over nothing, `c` over v0.
+/// let mut out = [b'.'; 10];
+/// assert_eq!(lfj::form(record, &mut out), Ok(7));
+/// assert_eq!(&out, b"(1,3)&2...");
+/// let refusal = lfj::form(record, &mut out[..5]).unwrap_err();
+/// assert_eq!((refusal.number, refusal.place), (12, 7));
+/// ```
+#[inline]
+pub fn form(record: &[u8], out: &mut [u8]) -> Result<usize, Refusal> {
+    // SAFETY: neither pointer is null, the bytes may be read and those of `out` written,
+    // and a `&mut` overlaps nothing.
+    let word = unsafe { c::lfj_form(record.as_ptr(), record.len(), out.as_mut_ptr(), out.len()) };
+    Ok(accepted(word)? as u32 as usize)
+}
+
+/// The fork-join expression as a `String`. Refusal 13, as with [`form`].
+pub fn form_text(record: &[u8]) -> Result<String, Refusal> {
+    let mut out = [0; FORM_LIMIT];
+    let length = form(record, &mut out)?;
+    Ok(out[..length].iter().map(|byte| *byte as char).collect())
+}
+
+/// A length that suffices for the fork-join expression: from its own up to 160.
+///
+/// Refusal 13, as with [`form`].
+///
+/// ```
+/// # let record = b"LFJ\0\x01\x03\x01\0\0\0\0\0\0\0\0\x01\0\0\0\0\0\0\0\0\
+/// #     \0\0\0\0\0\0\0\x01\x01a\0\0\0\0\0\0\0\0\x01b\0\0\0\0\0\0\0\x01\x01c";
+/// let mut out = vec![0; lfj::form_length(record)?];
+/// let length = lfj::form(record, &mut out)?;
+/// assert_eq!(&out[..length], b"(1,3)&2");
+/// # Ok::<(), lfj::Refusal>(())
+/// ```
+#[inline]
+pub fn form_length(record: &[u8]) -> Result<usize, Refusal> {
+    // SAFETY: a slice's pointer is not null and its bytes may be read.
+    let word = unsafe { c::lfj_form_length(record.as_ptr(), record.len()) };
+    Ok(accepted(word)? as u32 as usize)
+}
+
+/// Writes the MEL annotation into the first bytes of `out`: its length. The other bytes
+/// stay.
+///
+/// Refusal 12 if `out` is too short; its place is the length needed.
+///
+/// ```
+/// # let record = b"LFJ\0\x01\x02\x01\0\0\0\0\0\0\0\0\x01\0\0\0\0\0\0\0\0\
+/// #     \0\0\0\0\0\0\0\x01\x01a\0\0\0\0\0\0\0\x01\x01b";
+/// // Goals `a` and `b`, both over v0, which is in the head.
+/// let needed = lfj::mel(record, &mut []).unwrap_err().place;
+/// let mut out = vec![0; needed as usize];
+/// assert_eq!(lfj::mel(record, &mut out), Ok(17));
+/// assert_eq!(out, b"(ground(v0)=>1&2)");
+/// ```
+#[inline]
+pub fn mel(record: &[u8], out: &mut [u8]) -> Result<usize, Refusal> {
+    // SAFETY: neither pointer is null, the bytes may be read and those of `out` written,
+    // and a `&mut` overlaps nothing.
+    let word = unsafe { c::lfj_mel(record.as_ptr(), record.len(), out.as_mut_ptr(), out.len()) };
+    Ok(accepted(word)? as u32 as usize)
+}
+
+/// The MEL annotation as a `String`, however long it is.
+pub fn mel_text(record: &[u8]) -> Result<String, Refusal> {
+    let mut out = vec![0; 512];
+    let length = match mel(record, &mut out) {
+        Err(refusal) if refusal.number == 12 => {
+            out = vec![0; refusal.place as usize];
+            mel(record, &mut out)?
+        }
+        answer => answer?,
+    };
+    Ok(out[..length].iter().map(|byte| *byte as char).collect())
+}
+
+/// A goal's text: the part of the lent record that holds it.
+///
+/// Refusal 14 for a goal outside the record.
+///
+/// ```
+/// # let record = b"LFJ\0\x01\x02\x01\0\0\0\0\0\0\0\0\x01\0\0\0\0\0\0\0\0\
+/// #     \0\0\0\0\0\0\0\x01\x04half\0\0\0\0\0\0\0\x01\x04edge";
+/// assert_eq!(lfj::goal_text(record, 2), Ok(&b"edge"[..]));
+/// assert_eq!(lfj::goal_text(record, 0).unwrap_err().number, 14);
+/// ```
+#[inline]
+pub fn goal_text(record: &[u8], goal: u32) -> Result<&[u8], Refusal> {
+    // SAFETY: a slice's pointer is not null and its bytes may be read.
+    let word = unsafe { c::lfj_goal_text(record.as_ptr(), record.len(), goal) };
+    let word = accepted(word)?;
+    let (place, length) = (word as u32 as usize, (word >> 32 & 0xffff) as usize);
+    Ok(&record[place..place + length])
+}
+
+/// Holds an expression against the record's order.
+///
+/// Refusal 15 for a text that is empty or above 512 bytes, 16 if it is not in the grammar,
+/// 17 if it does not use each goal exactly once.
+///
+/// ```
+/// use lfj::Verdict;
+/// # let record = b"LFJ\0\x01\x02\x01\0\0\0\0\0\0\0\0\x01\0\0\0\0\0\0\0\0\
+/// #     \0\0\0\0\0\0\0\x01\x01a\0\0\0\0\0\0\0\x01\x01b";
+/// // Goal 1 is before goal 2.
+/// assert_eq!(lfj::check(record, b"((1)),2"), Ok(Verdict::Same));
+/// assert_eq!(lfj::check(record, b"2&1"), Ok(Verdict::Differs(1, 2)));
+/// let refusal = lfj::check(record, b"1,,2").unwrap_err();
+/// assert_eq!((refusal.number, refusal.place), (16, 2));
+/// ```
+#[inline]
+pub fn check(record: &[u8], text: &[u8]) -> Result<Verdict, Refusal> {
+    // SAFETY: neither slice's pointer is null, and their bytes may be read.
+    let word = unsafe { c::lfj_check(record.as_ptr(), record.len(), text.as_ptr(), text.len()) };
+    Ok(match accepted(word)? {
+        0 => Verdict::Same,
+        word => Verdict::Differs(word as u8, (word >> 8) as u8),
+    })
+}
