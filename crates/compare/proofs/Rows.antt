@@ -1,0 +1,113 @@
+-- Two orders compared row by row: the goals that are in just one of two rows.
+use mathlib.Core.Path.{_≡_, refl, sym, ap, ap₂, _∙_, subst}
+use mathlib.Core.Bool.{Bool, true, false, not, _&&_, _||_, cond, Bool·beq, true≢false, false≢true}
+use mathlib.Core.List.{List}
+use mathlib.Core.Option.{Option, none, some}
+use Prim.Native.Nat.{ℕ, zero, suc, _+_, _-_, _^_, _<_, _≤_}
+use native.Mathlib.Numerals.{add-one}
+use native.Mathlib.Omega.{arith}
+use native.Mathlib.Nat.{lt-of-lt-of-le}
+use lib.Dec.{ltb}
+use lib.ListN.{getD}
+use lib.Pow.{pow-pos, pow-mono}
+use borrow.Author.Tests.{lt-ltb, ltb-true}
+use Rattle.logic.proofs.Bools.{and-l, and-r}
+use Rattle.sets.specs.Sets.{has, union, meet, without, below, first}
+use Rattle.sets.proofs.Laws.{has-union, has-meet, has-without, has-below, has-empty, first-least, first-member}
+use Rattle.sets.proofs.Builder.{meet-lt}
+use Rattle.sets.proofs.Members.{first-in}
+use Rattle.graph.specs.Graph.{ahead}
+use Rattle.expression.specs.Search.{firstIn}
+use Rattle.first_n.proofs.Scan.{Passed, passed-none, passed-more, passed-hit, passed-all, passed-skip, nowhere}
+use Rattle.grammar.specs.Check.{differ, firstDiffer}
+use Rattle.compare.specs.declared.Verdict.{Verdict}
+use Rattle.compare.specs.declared.Verdict.the-variants.{Same, Differs}
+use Rattle.compare.specs.Verdicts.{said, verdictOf}
+use Rattle.grammar.specs.Check as Check
+
+-- the goals of 1 to n that are in just one of two rows
+abbrev pub odd : ℕ → ℕ → ℕ → ℕ
+odd n p q = meet (below n) (union (without p q) (without q p))
+
+module _ (n p q : ℕ) where
+  in-odd : (j : ℕ) → has (odd n p q) j ≡ (ltb j n && ((has p j && not (has q j)) || (has q j && not (has p j))))
+  in-odd j =
+      has-meet (below n) (union (without p q) (without q p)) j
+      ∙ ap₂ (λ a b. a && b) (has-below n j) (has-union (without p q) (without q p) j ∙ ap₂ (λ a b. a || b) (has-without p q j) (has-without q p j))
+
+  alike : (a b : Bool) → ((a && not b) || (b && not a)) ≡ not (Bool·beq a b)
+  alike true true = refl
+  alike true false = refl
+  alike false true = refl
+  alike false false = refl
+
+  odd-is : (j : ℕ) → j < n → has (odd n p q) j ≡ not (Bool·beq (has p j) (has q j))
+  odd-is j l = in-odd j ∙ ap₂ (λ a b. a && b) (lt-ltb j n l) (alike (has p j) (has q j))
+
+  odd-in : (j : ℕ) → has (odd n p q) j ≡ true → j < n
+  odd-in j h = ltb-true j n (and-l (ltb j n) ((has p j && not (has q j)) || (has q j && not (has p j))) (sym (in-odd j) ∙ h))
+
+  odd-lt : n ≤ 32 → odd n p q < 2 ^ 32
+  odd-lt few =
+      let pos = pow-pos n in
+      lt-of-lt-of-le (meet-lt n (below n) (union (without p q) (without q p)) (omega arith)) (pow-mono few)
+
+not-not : (b : Bool) (c : Bool) → not b ≡ c → b ≡ not c
+not-not true c h = ap not h
+not-not false c h = ap not h
+
+module _ (n : ℕ) (a b : List ℕ) where
+  abbrev pub row : ℕ → Option (ℕ × ℕ)
+  row i = firstIn (λ j. differ (ahead a) (ahead b) i j) 1 n
+
+  module _ (i : ℕ) where
+    abbrev x : ℕ
+    x = odd n (getD a i 0) (getD b i 0)
+
+    no-differ : (j : ℕ) → j < n → has x j ≡ false → differ (ahead a) (ahead b) (suc i) (suc j) ≡ none
+    no-differ j l h =
+        ap (λ c. cond {A = Option (ℕ × ℕ)} c none (some (suc i, suc j))) (not-not (Bool·beq (has (getD a i 0) j) (has (getD b i 0) j)) false (sym (odd-is n (getD a i 0) (getD b i 0) j l) ∙ h))
+
+    pub row-same : x ≡ 0 → row (suc i) ≡ none
+    row-same e = nowhere n (λ j. differ (ahead a) (ahead b) (suc i) j) (λ j l. no-differ j l (ap (λ z. has z j) e ∙ has-empty j))
+
+    pub row-hit : n ≤ 32 → (x ≡ 0 → ⊥) → row (suc i) ≡ some (suc i, suc (first 32 x))
+    row-hit few e =
+        let here = first-member 32 x (first-in 32 x (odd-lt n (getD a i 0) (getD b i 0) few) e) in
+        let l = odd-in n (getD a i 0) (getD b i 0) (first 32 x) here in
+        let f : ℕ → Option (ℕ × ℕ) = λ j. differ (ahead a) (ahead b) (suc i) j in
+        passed-hit n f (suc i, suc (first 32 x)) (first 32 x) l
+        (ap (λ c. cond {A = Option (ℕ × ℕ)} c none (some (suc i, suc (first 32 x)))) (not-not (Bool·beq (has (getD a i 0) (first 32 x)) (has (getD b i 0) (first 32 x))) true (sym (odd-is n (getD a i 0) (getD b i 0) (first 32 x) l) ∙ here)))
+        (passed-skip n f (first 32 x) (λ k m o. no-differ k o (first-least 32 x k m)))
+
+  -- ---- the loop: goals are the goals 1 to n
+  pub compare-end : (i : ℕ) → n ≤ i → Passed n row i → Same ≡ said (firstDiffer n (ahead a) (ahead b))
+  unfolding firstDiffer
+  compare-end i l p = sym (ap said (passed-all n row i l p))
+
+  module _ (goals i : ℕ) (g : goals ≡ below n) where
+    abbrev here : ℕ
+    here = meet goals (union (without (getD a i 0) (getD b i 0)) (without (getD b i 0) (getD a i 0)))
+
+    here-is : here ≡ odd n (getD a i 0) (getD b i 0)
+    here-is = ap (λ z. meet z (union (without (getD a i 0) (getD b i 0)) (without (getD b i 0) (getD a i 0)))) g
+
+    pub compare-more : i < n → here ≡ 0 → Passed n row i → Passed n row (i + 1)
+    compare-more l e p = passed-more n row i l (row-same i (sym here-is ∙ e)) p
+
+    module _ (few : n ≤ 32) (e : here ≡ 0 → ⊥) (j : ℕ) (q : j ≡ first 32 here) where
+      pub compare-place : j < 32
+      compare-place =
+          subst (λ z. z < 32) (sym (q ∙ ap (λ z. first 32 z) here-is)) (first-in 32 (odd n (getD a i 0) (getD b i 0)) (odd-lt n (getD a i 0) (getD b i 0) few) (λ z. e (here-is ∙ z)))
+
+      pub compare-hit : i < n → Passed n row i → Differs (record { i = i + 1; j = j + 1 }) ≡ said (firstDiffer n (ahead a) (ahead b))
+      unfolding firstDiffer
+      compare-hit l p =
+          let f : j ≡ first 32 (odd n (getD a i 0) (getD b i 0)) = q ∙ ap (λ z. first 32 z) here-is in
+          rw (add-one i, add-one j, f)
+          (sym (ap said (passed-hit n row (suc i, suc (first 32 (odd n (getD a i 0) (getD b i 0)))) i l (row-hit i few (λ z. e (here-is ∙ z))) p)))
+
+-- what is said is the verdict of the paper
+pub said-verdict : (o : Option (ℕ × ℕ)) → verdictOf (said o) ≡ Check.verdict o
+said-verdict none = refl
+said-verdict (some p) = refl
