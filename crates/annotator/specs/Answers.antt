@@ -1,4 +1,4 @@
--- What the operations of 01 answer. For each: a record of the paper's values, in which every field that the paper leaves open is zero; the definition that
+-- What the operations of 01 answer. For each: a record of the paper's values, in which every field that the case does not have is zero; the definition that
 -- turns each case of the program's answer into these values; and the values that the lent bytes give.
 -- 01: "A refusal returns its number and a place, every other field zero (13 also has its four goals), and changes no lent byte."
 -- Writing the form and the length estimate have theirs in the crate `form`, writing MEL in `mel`.
@@ -13,10 +13,17 @@ use Rattle.reading.specs.declared.Reading.the-variants.{Fine, Refused as Unread
 use Rattle.record.specs.Fields.{goalCount, textPlace, textLength}
 use Rattle.record.specs.Reading.{reading}
 use Rattle.order.specs.Order
+use Rattle.order.specs.Order.{before}
+use Rattle.grammar.specs.Reading.{Ruling, refusal, answer}
+use Rattle.grammar.specs.Check.{same, differs, checked}
+use Rattle.grammar.specs.Check
+use Rattle.compare.specs.Verdicts.{verdictOf}
 use Rattle.annotator.specs.declared.ReadAnswer.{ReadAnswer}
 use Rattle.annotator.specs.declared.ReadAnswer.the-variants.{Accepted, Refused}
 use Rattle.annotator.specs.declared.TextAnswer.{TextAnswer}
 use Rattle.annotator.specs.declared.TextAnswer.the-variants.{At, NoText}
+use Rattle.annotator.specs.declared.CheckAnswer.{CheckAnswer}
+use Rattle.annotator.specs.declared.CheckAnswer.the-variants.{Verdict, Rejected}
 
 -- 01: "Reading the record, which starts every operation": the reading's refusal, or what follows an accepted record
 abbrev pub afterReading : {A : Type 0} → (ℕ → ℕ → A) → Reading → A → A
@@ -63,3 +70,29 @@ textOf b g = record { number = 0; place = 0; start = textPlace b g; length = tex
 -- "with any refusal the part is the empty one at the record's start": start and length are 0
 unfoldable pub goalText : List ℕ → ℕ → TextValues
 goalText b g = afterReading noText (reading b) (cond (leb 1 g && leb g (goalCount b)) (textOf b g) (noText 14 0))
+
+-- ---- Check of an expression: a refusal, or a verdict, 1 for "same" and 2 for "differs", which has the first i, then j.
+pub record CheckValues : Type 0 where
+  pub number : ℕ
+  pub place : ℕ
+  pub verdict : ℕ
+  pub i : ℕ
+  pub j : ℕ
+
+abbrev pub noCheck : ℕ → ℕ → CheckValues
+noCheck k p = record { number = k; place = p; verdict = 0; i = 0; j = 0 }
+
+abbrev pub saying : Check.Verdict → CheckValues
+saying same = record { number = 0; place = 0; verdict = 1; i = 0; j = 0 }
+saying (differs i j) = record { number = 0; place = 0; verdict = 2; i = i; j = j }
+
+abbrev pub checkValues : CheckAnswer → CheckValues
+checkValues (Verdict v) = saying (verdictOf v)
+checkValues (Rejected r) = noCheck (r .number) (r .place)
+
+abbrev pub ruled : Ruling Check.Verdict → CheckValues
+ruled (refusal k p) = noCheck k p
+ruled (answer v) = saying v
+
+unfoldable pub check : List ℕ → List ℕ → CheckValues
+check b t = afterReading noCheck (reading b) (ruled (checked (goalCount b) (before b) t))

@@ -1,12 +1,18 @@
 // The operations of the paper, each from lent bytes to its answer. None has a precondition; each promise fixes the entire answer, refused or not, and every
 // lent byte afterwards (what is lent by `&` cannot change). The definitions stand in specs/Answers.antt, for the form and MEL in the crates `form` and `mel`.
+use compare::Verdict;
 use graph::Graph;
 use reading::Reading;
 use refusal::Refusal;
+use text_reading::Outcome;
 ghost use mathlib.Core.Path.{_≡_};
 ghost use mathlib.Core.Bool.{_&&_};
+ghost use Prim.Native.Nat.{_≤_};
 ghost use lib.Dec.{leb};
+ghost use Rattle.order.specs.Order.{before};
+ghost use Rattle.grammar.specs.Check.{checked};
 ghost use Rattle.fields.specs.Fields as F;
+ghost use Rattle.mel.specs.Annotation as M;
 ghost use Rattle.annotator.specs.Answers as W;
 ghost use Rattle.annotator.specs.Part.{PartAt};
 
@@ -31,6 +37,12 @@ pub struct Span {
 pub enum TextAnswer {
     At(Span),
     NoText(Refusal),
+}
+
+// The check of an expression: a verdict, or a refusal.
+pub enum CheckAnswer {
+    Verdict(Verdict),
+    Rejected(Refusal),
 }
 
 fn goal_count(bytes: &[u8]) -> usize
@@ -105,4 +117,42 @@ pub fn goal_text(bytes: &[u8], goal: u32) -> &[u8]
         }
         TextAnswer::NoText(_) => &bytes[0..0],
     }
+}
+
+// Checks an expression's text against the order of an accepted record.
+fn check_text(bytes: &[u8], text: &[u8]) -> CheckAnswer
+    requires { ⌜ F.goalCount (now bytes) ≤ 32 ⌝ }
+    ensures { λ r. ⌜ W.checkValues r ≡ W.ruled (checked (F.goalCount (now (bytes .entry))) (before (now (bytes .entry))) (now (text .entry))) ⌝ }
+{
+    let n = goal_count(bytes);
+    let answer = text_reading::read_text(text, n);
+    let outcome = answer.outcome;
+    match outcome {
+        Outcome::Refused(r) => CheckAnswer::Rejected(r),
+        Outcome::Read => {
+            let graph = order::order_of(bytes);
+            let drawn = answer.graph;
+            let a = graph.rows;
+            let b = drawn.rows;
+            CheckAnswer::Verdict(compare::compare(&a, &b, n))
+        }
+    }
+}
+
+// Checks an expression's text against the order of a record.
+pub fn check(bytes: &[u8], text: &[u8]) -> CheckAnswer
+    ensures { λ r. ⌜ W.checkValues r ≡ W.check (now (bytes .entry)) (now (text .entry)) ⌝ }
+{
+    match record::read(bytes) {
+        Reading::Refused(r) => CheckAnswer::Rejected(r),
+        Reading::Fine => check_text(bytes, text),
+    }
+}
+
+// Writes the MEL annotation of a record into `out`: its length, or a refusal that leaves `out` as it was.
+pub fn mel(bytes: &[u8], out: &mut [u8]) -> mel::Written
+    ensures { λ r. ⌜ M.values r ≡ M.melAnswer (now (bytes .entry)) (now (out .entry)) ⌝ }
+    ensures { λ _. ⌜ now (out .exit) ≡ M.melBuffer (now (bytes .entry)) (now (out .entry)) ⌝ }
+{
+    mel::write(bytes, out)
 }

@@ -1,0 +1,38 @@
+use mathlib.Core.Path.{_∙_}
+use Rattle.annotator.proofs.Answers.{accepted}
+use Rattle.annotator.proofs.Checks.{check-refused, check-fine}
+use borrow.Author.Needs.{needs}
+use Rattle.annotator.proofs.check.Statement.{statement}
+use Rattle.annotator.proofs.check.Tie as tie
+use Rattle.annotator.proofs.check.Reads as reads
+use Rattle.annotator.proofs.check.Lts as lts
+use Rattle.annotator.proofs.check_text.Reads as check-text-reads
+use Rattle.record.proofs.read.Reads as read-reads
+
+-- src/lib.rt:145:11
+read-requires : tie.Need-read-requires
+read-requires c κs = search needs
+
+-- src/lib.rt:146:26
+enum-known-r : tie.Need-enum-known-r
+enum-known-r c = search needs
+
+-- src/lib.rt:147:26
+enum-told : tie.Need-enum-told
+enum-told c = search needs
+
+-- src/lib.rt:147:26
+check-text-requires : tie.Need-check-text-requires
+check-text-requires c κs = accepted _ (c .before .before .read .ensures) (c .enum-told .given .1) .goals-to
+
+-- src/lib.rt:142:1
+returns : tie.Need-returns
+returns c = check-refused _ _ _ (c .before .before .before .read .ensures) (c .before .r .given .1)
+
+-- src/lib.rt:142:1
+returns-2 : tie.Need-returns-2
+returns-2 c = c .check-text .ensures ∙ check-fine _ _ (c .before .before .before .read .ensures) (c .before .enum-told .given .1)
+
+pub check-spec : {M : Type 1} → statement M
+check-spec =
+    tie.close (tie.spec read-requires enum-known-r enum-told check-text-requires returns returns-2)
