@@ -142,7 +142,7 @@ pub fn put_checks(
     p: usize,
     q: usize,
 ) -> usize
-    requires { ⌜ (p ≤ q) × (q ≤ 32) ⌝ }
+    requires { ⌜ (p ≤ q) × ((q ≤ length (now sets)) × (length (now sets) ≤ 32)) ⌝ }
     requires { ⌜ now before ≡ M.upTo (now sets) ⌝ }
     requires { ⌜ at + length (X.checksText head (now sets) (now grounds) (now rows) p q) < 2 ^ 63 ⌝ }
     ensures { λ r. ⌜ Wrote (X.checksText head (now (sets .entry)) (now (grounds .entry)) (now (rows .entry)) p q) at (now (out .entry)) r (now (out .exit)) ⌝ }
@@ -169,7 +169,7 @@ pub fn put_stage(
     p: usize,
     q: usize,
 ) -> usize
-    requires { ⌜ (p < q) × (q ≤ 32) ⌝ }
+    requires { ⌜ (p < q) × ((q ≤ length (now sets)) × (length (now sets) ≤ 32)) ⌝ }
     requires { ⌜ now before ≡ M.upTo (now sets) ⌝ }
     requires { ⌜ at + length (X.stageText head (now sets) (now grounds) (now rows) p q) < 2 ^ 63 ⌝ }
     ensures { λ r. ⌜ Wrote (X.stageText head (now (sets .entry)) (now (grounds .entry)) (now (rows .entry)) p q) at (now (out .entry)) r (now (out .exit)) ⌝ }
@@ -195,7 +195,7 @@ pub fn put_stages(
     rows: &[u64],
     q: usize,
 ) -> usize
-    requires { ⌜ (0 < q) × (q ≤ 32) ⌝ }
+    requires { ⌜ (0 < q) × ((q ≤ length (now sets)) × (length (now sets) ≤ 32)) ⌝ }
     requires { ⌜ now before ≡ M.upTo (now sets) ⌝ }
     requires { ⌜ at + length (X.stagesText head (now sets) (now grounds) (now rows) q) < 2 ^ 63 ⌝ }
     ensures { λ r. ⌜ Wrote (X.stagesText head (now (sets .entry)) (now (grounds .entry)) (now (rows .entry)) q) at (now (out .entry)) r (now (out .exit)) ⌝ }

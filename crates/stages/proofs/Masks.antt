@@ -109,12 +109,12 @@ module _ (sets : List ℕ) (p : ℕ) where
 
 module _ (sets : List ℕ) where
   -- read as goal p, the variables before goal p
-  pub before-goal : (p : ℕ) → 0 < p → p ≤ 33 → goal (upTo sets) p ≡ once sets 0 (p - 1)
+  pub before-goal : (p : ℕ) → 0 < p → p ≤ length sets + 1 → length sets ≤ 32 → goal (upTo sets) p ≡ once sets 0 (p - 1)
   unfolding goal upTo
-  before-goal p z h = table-at 33 33 (λ g. once sets 0 g) (p - 1) (omega arith) (omega arith)
+  before-goal p z h l = table-at 33 (length sets + 1) (λ g. once sets 0 g) (p - 1) (omega arith) (omega arith)
 
-  pub before-next : (p : ℕ) → p ≤ 32 → goal (upTo sets) (p + 1) ≡ once sets 0 p
-  before-next p h = let e : p + 1 - 1 ≡ p = omega arith in before-goal (p + 1) (omega arith) (omega arith) ∙ ap (once sets 0) e
+  pub before-next : (p : ℕ) → p ≤ length sets → length sets ≤ 32 → goal (upTo sets) (p + 1) ≡ once sets 0 p
+  before-next p h l = let e : p + 1 - 1 ≡ p = omega arith in before-goal (p + 1) (omega arith) (omega arith) l ∙ ap (once sets 0) e
 
   -- filling the array
   abbrev pub filled : ℕ → List ℕ
@@ -126,9 +126,9 @@ module _ (sets : List ℕ) where
   pub upto-more : (g : ℕ) (l : List ℕ) (v : ℕ) → g < 33 → l ≡ filled g → v ≡ once sets 0 g → set l g v ≡ filled (g + 1)
   upto-more g l v h e q = table-more 33 g (λ g. once sets 0 g) l v h e q
 
-  pub upto-all : (k : ℕ) → 33 ≤ k → k ≤ 33 → filled k ≡ upTo sets
+  pub upto-all : (k : ℕ) → length sets < k → k ≤ length sets + 1 → filled k ≡ upTo sets
   unfolding upTo
-  upto-all k h l = let e : k ≡ 33 = omega arith in ap filled e
+  upto-all k h l = let e : k ≡ length sets + 1 = omega arith in ap filled e
 
 -- ---- the goal that holds a variable
 

@@ -5,6 +5,7 @@ use mathlib.Core.Bool.{_||_, cond}
 use mathlib.Core.List.{List}
 use Prim.Native.Nat.{ℕ, zero, suc, _+_, _-_}
 use lib.Dec.{ltb}
+use lib.ListN.{length}
 use Rattle.arrays.specs.Table.{table}
 use Rattle.sets.specs.Sets.{has, union, meet, without, below}
 use Rattle.stages.specs.Mel.{Clause, goal}
@@ -31,9 +32,9 @@ module _ (sets : List ℕ) (p : ℕ) where
   twice zero = 0
   twice (suc q) = let m = twice q in cond (ltb p (suc q)) (union m (meet (once q) (goal sets (suc q)))) m
 
--- at place g the variables of goals 1 to g, for g up to 32
+-- at place g the variables of goals 1 to g, up to the last goal; 33 places
 unfoldable pub upTo : List ℕ → List ℕ
-upTo sets = table 33 33 (λ g. once sets 0 g)
+upTo sets = table 33 (length sets + 1) (λ g. once sets 0 g)
 
 -- the set of the first of the goals p+1 to p+k that holds x, empty if none does
 unfoldable pub homeFrom : List ℕ → ℕ → ℕ → ℕ → ℕ

@@ -1,6 +1,7 @@
 // The stages of the MEL annotation and their checks, by masks over the goals' variable sets. Goals are numbered from 1.
 ghost use mathlib.Core.Path.{_≡_};
 ghost use Prim.Native.Nat.{ℕ, _+_, _<_, _≤_, _^_};
+ghost use lib.ListN.{length};
 ghost use Rattle.stages.specs.Mel as W;
 ghost use Rattle.stages.specs.Masks as M;
 
@@ -16,18 +17,19 @@ pub fn goal(sets: &[u64], g: usize) -> u64
     0
 }
 
-// At place g the variables of goals 1 to g.
+// At place g the variables of goals 1 to g, up to the last goal.
 pub struct UpTo {
     pub set: [u64; 33],
 }
 
 pub fn up_to(sets: &[u64]) -> UpTo
+    requires { ⌜ length (now sets) ≤ 32 ⌝ }
     ensures { λ r. ⌜ r .set ≡ M.upTo (now (sets .entry)) ⌝ }
 {
     let mut set = [0u64; 33];
     let mut m = 0u64;
     let mut g: usize = 0;
-    while g < 33 {
+    while g <= sets.len() {
         set[g] = m;
         g += 1;
         m = sets::union(m, goal(sets, g));
@@ -37,7 +39,7 @@ pub fn up_to(sets: &[u64]) -> UpTo
 
 // The p of goals 1 to q, from q downward; `before` is what up_to gives, so that place p - 1, read as goal p, has the variables before goal p.
 pub fn start_of(head: u64, sets: &[u64], before: &[u64], q: usize) -> usize
-    requires { ⌜ q ≤ 32 ⌝ }
+    requires { ⌜ (q ≤ length (now sets)) × (length (now sets) ≤ 32) ⌝ }
     requires { ⌜ now before ≡ M.upTo (now sets) ⌝ }
     ensures { λ r. ⌜ r ≡ W.start 64 head (now (sets .entry)) q ⌝ }
 {

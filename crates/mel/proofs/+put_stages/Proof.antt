@@ -57,11 +57,11 @@ less t c = rw (c .start-of .ensures) (start-falls _ _ _ _ (omega arith))
 
 -- src/lib.rt:161:9
 put-stages-start-of-requires : (t : ℕ) → put-stages-lts.Need-start-of-requires (put-stages-K t) (put-stages-at t) put-stages.Post
-put-stages-start-of-requires t c κs = (omega arith, (search))
+put-stages-start-of-requires t c κs = ((omega arith, omega arith), (search))
 
 -- src/lib.rt:163:9
 put-stages-put-stage-requires : (t : ℕ) → put-stages-lts.Need-put-stage-requires (put-stages-K t) (put-stages-at t) put-stages.Post
-put-stages-put-stage-requires t c κs = ((omega (arith, less t (c .before .before)), omega arith), ((search), omega (arith, ap length (one t (c .before)))))
+put-stages-put-stage-requires t c κs = ((omega (arith, less t (c .before .before)), (omega arith, omega arith)), ((search), omega (arith, ap length (one t (c .before)))))
 
 -- src/lib.rt:163:9
 put-stages-same-length : (t : ℕ) → put-stages-lts.Need-same-length (put-stages-K t) (put-stages-at t) put-stages.Post
@@ -73,7 +73,7 @@ put-stages-returns t c = recast (one t (c .before .before .before .before)) (c .
 
 -- src/lib.rt:165:9
 put-stages-put-stages-requires : (t : ℕ) → put-stages-lts.Need-put-stages-requires (put-stages-K t) (put-stages-at t) put-stages.Post
-put-stages-put-stages-requires t c κs = (omega (arith, less t (c .before .before)), ((omega arith, omega (arith, less t (c .before .before))), ((search), omega (arith, simp length-append at (ap length (more t (c .before)))))))
+put-stages-put-stages-requires t c κs = (omega (arith, less t (c .before .before)), ((omega arith, (omega (arith, less t (c .before .before)), omega arith)), ((search), omega (arith, simp length-append at (ap length (more t (c .before)))))))
 
 -- src/lib.rt:166:5
 put-stages-put-byte-requires : (t : ℕ) → put-stages-lts.Need-put-byte-requires (put-stages-K t) (put-stages-at t) put-stages.Post
@@ -81,7 +81,7 @@ put-stages-put-byte-requires t c κs = omega (arith, simp length-append at (ap l
 
 -- src/lib.rt:167:5
 put-stages-put-stage-requires-2 : (t : ℕ) → put-stages-lts.Need-put-stage-requires-2 (put-stages-K t) (put-stages-at t) put-stages.Post
-put-stages-put-stage-requires-2 t c κs = ((omega (arith, less t (c .before .before .before .before .before .before .before .before .before .before)), omega arith), ((search), omega (arith, simp length-append at (ap length (more t (c .before .before .before .before .before .before .before .before .before))))))
+put-stages-put-stage-requires-2 t c κs = ((omega (arith, less t (c .before .before .before .before .before .before .before .before .before .before)), (omega arith, omega arith)), ((search), omega (arith, simp length-append at (ap length (more t (c .before .before .before .before .before .before .before .before .before))))))
 
 -- src/lib.rt:155:1
 put-stages-same-length-2 : (t : ℕ) → put-stages-lts.Need-same-length-2 (put-stages-K t) (put-stages-at t) put-stages.Post

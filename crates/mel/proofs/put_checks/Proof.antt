@@ -27,7 +27,7 @@ parts c =
     let a = c .before .before .before .before .before .before .before .before .before .before .before .args in
     let e : now (a .before) ≡ M.upTo (now (a .sets)) = (search) in
     let met : c .before .before .before .before .goal2 .result ≡ M.once (now (a .sets)) 0 (a .p) =
-    c .before .before .before .before .goal2 .ensures ∙ ap (λ (l : List ℕ). W.goal l (a .p + 1)) e ∙ before-next _ _ (omega arith)
+    c .before .before .before .before .goal2 .ensures ∙ ap (λ (l : List ℕ). W.goal l (a .p + 1)) e ∙ before-next _ _ (omega arith) (omega arith)
     in
     rw (c .without .ensures, c .before .candidates .ensures, c .before .before .counted .ensures .0, c .before .before .counted .ensures .1, c .before .before .before .union .ensures, met, c .before .before .before .before .before .goal .ensures)
     (checks-parts _ _ _ _ _ _)

@@ -46,7 +46,7 @@ put-byte-requires c κs = search needs
 
 -- src/lib.rt:148:9
 put-checks-requires : tie.Need-put-checks-requires
-put-checks-requires c κs = ((omega arith, omega arith), ((search), omega (arith, simp length-append at (ap length (several (c .before .before .before .before .before))))))
+put-checks-requires c κs = ((omega arith, (omega arith, omega arith)), ((search), omega (arith, simp length-append at (ap length (several (c .before .before .before .before .before))))))
 
 -- src/lib.rt:149:5
 put-arrow-requires : tie.Need-put-arrow-requires

@@ -33,7 +33,7 @@ slice-aggregate-put-stages-2 c = search needs
 
 -- src/lib.rt:236:9
 put-stages-requires : tie.Need-put-stages-requires
-put-stages-requires c κs = ((omega arith, omega arith), (c .before .before .before .up-to .ensures, omega (arith, text-fits (c .before .before .before .before .before .before .before .before .args .head) (now (c .before .before .before .before .before .before .before .before .args .sets)) (now (c .before .before .before .before .before .before .before .before .args .grounds)) (now (c .before .before .before .before .before .before .before .before .args .rows)) (length (now (c .before .before .before .before .before .before .before .before .args .sets))) (omega arith))))
+put-stages-requires c κs = ((omega arith, (omega arith, omega arith)), (c .before .before .before .up-to .ensures, omega (arith, text-fits (c .before .before .before .before .before .before .before .before .args .head) (now (c .before .before .before .before .before .before .before .before .args .sets)) (now (c .before .before .before .before .before .before .before .before .args .grounds)) (now (c .before .before .before .before .before .before .before .before .args .rows)) (length (now (c .before .before .before .before .before .before .before .before .args .sets))) (omega arith))))
 
 -- src/lib.rt:239:9
 returns : tie.Need-returns
@@ -45,7 +45,7 @@ slice-aggregate-put-stages-3 c = search needs
 
 -- src/lib.rt:241:5
 put-stages-requires-2 : tie.Need-put-stages-requires-2
-put-stages-requires-2 c κs = ((omega arith, omega arith), (c .before .before .before .before .before .before .before .before .up-to .ensures, omega (arith, text-fits (c .before .before .before .before .before .before .before .before .before .before .before .before .before .args .head) (now (c .before .before .before .before .before .before .before .before .before .before .before .before .before .args .sets)) (now (c .before .before .before .before .before .before .before .before .before .before .before .before .before .args .grounds)) (now (c .before .before .before .before .before .before .before .before .before .before .before .before .before .args .rows)) (length (now (c .before .before .before .before .before .before .before .before .before .before .before .before .before .args .sets))) (omega arith))))
+put-stages-requires-2 c κs = ((omega arith, (omega arith, omega arith)), (c .before .before .before .before .before .before .before .before .up-to .ensures, omega (arith, text-fits (c .before .before .before .before .before .before .before .before .before .before .before .before .before .args .head) (now (c .before .before .before .before .before .before .before .before .before .before .before .before .before .args .sets)) (now (c .before .before .before .before .before .before .before .before .before .before .before .before .before .args .grounds)) (now (c .before .before .before .before .before .before .before .before .before .before .before .before .before .args .rows)) (length (now (c .before .before .before .before .before .before .before .before .before .before .before .before .before .args .sets))) (omega arith))))
 
 -- src/lib.rt:219:1
 same-length : tie.Need-same-length

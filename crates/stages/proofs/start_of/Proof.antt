@@ -29,7 +29,7 @@ cut c =
     let l = c .before .before .before .before .before .before .loop in
     let e : now (a .before) ≡ M.upTo (now (a .sets)) = (search) in
     let b : c .before .before .goal2 .result ≡ M.once (now (a .sets)) 0 (l .p - 1) =
-    c .before .before .goal2 .ensures ∙ ap (λ (k : List ℕ). W.goal k (l .p)) e ∙ before-goal _ _ (omega arith) (omega arith)
+    c .before .before .goal2 .ensures ∙ ap (λ (k : List ℕ). W.goal k (l .p)) e ∙ before-goal _ _ (omega arith) (omega arith) (omega arith)
     in
     cuts-mask _ _ 64 _ _ _ _ _ b (l .inv .1 .0) (c .meet .ok) (rw (c .meet .ensures, c .before .without2 .ensures, c .before .before .before .without .ensures, c .before .before .before .before .goal .ensures))
 

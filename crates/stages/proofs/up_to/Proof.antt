@@ -1,4 +1,5 @@
-use Prim.Native.Nat.{_≤_, _-_}
+use lib.ListN.{length}
+use Prim.Native.Nat.{_≤_, _+_, _-_}
 use mathlib.Core.Path.{_≡_, _∙_}
 use native.Mathlib.Omega.{arith}
 use Rattle.stages.specs.Masks as M
@@ -7,10 +8,10 @@ use Rattle.stages.proofs.up_to.Statement.{statement}
 use Rattle.stages.proofs.up_to.Tie as tie
 
 abbrev Inv-loop : tie.InvT-loop
-Inv-loop sets set₀ m₀ g₀ set m g = (g ≤ 33) × ((m ≡ M.once sets 0 g) × (set ≡ filled sets g))
+Inv-loop sets set₀ m₀ g₀ set m g = (g ≤ length sets + 1) × ((m ≡ M.once sets 0 g) × (set ≡ filled sets g))
 
 abbrev μ-loop : tie.MeasureT-loop
-μ-loop sets set₀ m₀ g₀ set m g = 33 - g
+μ-loop sets set₀ m₀ g₀ set m g = length sets + 1 - g
 
 -- src/lib.rt:30:5
 loop-holds : tie.Need-loop-holds Inv-loop μ-loop
