@@ -146,13 +146,13 @@ impl Run {
         self.hold_word(given, word(answer), question);
         let text = MARGIN..MARGIN + answer.unwrap_or(0) as usize;
         let (given, wanted) = (&self.proved_buffer[..all], &self.hand_buffer[..all]);
-        let kept = |at: &usize| given[*at] == byte;
-        if proved == hand && given != wanted {
+        let beside = given[..text.start].iter().chain(&given[text.end..]);
+        if beside.into_iter().any(|kept| *kept != byte) {
+            self.report(question(), "changed a byte beside the text".into(), "kept it".into());
+        } else if proved == hand && given != wanted {
             let say = |bytes: &[u8]| hex(&bytes[text.clone()]);
             let (proved, hand) = (say(given), say(wanted));
             self.report(question(), proved, hand);
-        } else if !((0..text.start).all(|at| kept(&at)) && (text.end..all).all(|at| kept(&at))) {
-            self.report(question(), "changed a byte beside the text".into(), "kept it".into());
         }
     }
 
