@@ -1,6 +1,8 @@
 //! Answers the kit's questions: one line `OPERATION K INPUT..` in, one answer out.
 //!
-//!     answers [--reference] [--sheet PROGRAM]
+//! ```text
+//! answers [--reference] [--sheet PROGRAM]
+//! ```
 //!
 //! By the proved library, or with `--reference` by the hand-written annotator. With `--sheet`
 //! the `sheet` questions go to that program's standard input; else the sheet is put together

@@ -1,8 +1,10 @@
 //! The proved annotator against the hand-written one, on seeded records and texts, valid
 //! and damaged, every operation, short buffers included.
 //!
-//!     differences [CASES [SEED]]     200000 cases and seed 1 if not given
-//!     differences --case 'LINE'      both answers to one question in the kit's format
+//! ```text
+//! differences [CASES [SEED]]     200000 cases and seed 1 if not given
+//! differences --case 'LINE'      both answers to one question in the kit's format
+//! ```
 //!
 //! Ends with status 0 if there is no difference and every refusal, verdict, form and no
 //! form was met.
@@ -22,6 +24,29 @@ const MARGIN: usize = 64;
 const BUFFER: usize = 1 << 18;
 /// After this many differences the run ends.
 const ENOUGH: usize = 10;
+
+/// An operation that writes into a lent buffer, from both sides.
+struct Writer {
+    name: &'static str,
+    proved: fn(&[u8], &mut [u8]) -> Result<u32, Refusal>,
+    /// The function of the library, for the whole answer word.
+    raw: unsafe extern "C" fn(*const u8, usize, *mut u8, usize) -> u64,
+    hand: fn(&[u8], &mut [u8]) -> Result<u32, Refusal>,
+}
+
+const FORM: Writer = Writer {
+    name: "form",
+    proved: |record, out| Proved.form(record, out),
+    raw: c::lfj_form,
+    hand: compare::form,
+};
+
+const MEL: Writer = Writer {
+    name: "mel",
+    proved: |record, out| Proved.mel(record, out),
+    raw: c::lfj_mel,
+    hand: compare::mel,
+};
 
 /// How often each thing was met, by the hand-written annotator's answers.
 #[derive(Default)]
@@ -106,36 +131,28 @@ impl Run {
     }
 
     /// Both writers into a buffer of `room` bytes; answers, texts and all other bytes.
-    fn writer(
-        &mut self,
-        operation: &str,
-        record: &[u8],
-        room: usize,
-        byte: u8,
-        proved: impl FnOnce(&mut [u8]) -> Result<u32, Refusal>,
-        raw: unsafe extern "C" fn(*const u8, usize, *mut u8, usize) -> u64,
-        hand: impl FnOnce(&mut [u8]) -> Result<u32, Refusal>,
-    ) {
+    fn write(&mut self, writer: &Writer, record: &[u8], room: usize, byte: u8) {
         let all = room + 2 * MARGIN;
         self.proved_buffer[..all].fill(byte);
         self.hand_buffer[..all].fill(byte);
-        let proved = proved(&mut self.proved_buffer[MARGIN..MARGIN + room]);
-        let hand = hand(&mut self.hand_buffer[MARGIN..MARGIN + room]);
-        let question = || format!("{operation} 0 {} {room}", hex(record));
+        let proved = (writer.proved)(record, &mut self.proved_buffer[MARGIN..MARGIN + room]);
+        let hand = (writer.hand)(record, &mut self.hand_buffer[MARGIN..MARGIN + room]);
+        let question = || format!("{} 0 {} {room}", writer.name, hex(record));
         let answer = self.hold(proved, hand, question);
         let (start, n) = (record.as_ptr(), record.len());
         // SAFETY: the pointers are those of slices, and the buffer is a vector of its own.
-        let given = unsafe { raw(start, n, self.proved_buffer[MARGIN..].as_mut_ptr(), room) };
+        let given =
+            unsafe { (writer.raw)(start, n, self.proved_buffer[MARGIN..].as_mut_ptr(), room) };
         self.hold_word(given, word(answer), question);
         let text = MARGIN..MARGIN + answer.unwrap_or(0) as usize;
         let (given, wanted) = (&self.proved_buffer[..all], &self.hand_buffer[..all]);
-        let kept = |at: &usize| given[*at] == byte;
-        if proved == hand && given != wanted {
+        let beside = given[..text.start].iter().chain(&given[text.end..]);
+        if beside.into_iter().any(|kept| *kept != byte) {
+            self.report(question(), "changed a byte beside the text".into(), "kept it".into());
+        } else if proved == hand && given != wanted {
             let say = |bytes: &[u8]| hex(&bytes[text.clone()]);
             let (proved, hand) = (say(given), say(wanted));
             self.report(question(), proved, hand);
-        } else if !((0..text.start).all(|at| kept(&at)) && (text.end..all).all(|at| kept(&at))) {
-            self.report(question(), "changed a byte beside the text".into(), "kept it".into());
         }
     }
 
@@ -197,10 +214,8 @@ impl Run {
         }
         let length = answer.unwrap_or(0) as usize;
         let room = generate::room(random, length);
-        let write = |out: &mut [u8]| Reference.form(record, out);
         let byte = random.word() as u8;
-        let proved = |out: &mut [u8]| Proved.form(record, out);
-        self.writer("form", record, room, byte, proved, c::lfj_form, write);
+        self.write(&FORM, record, room, byte);
         text[..length].to_vec()
     }
 
@@ -226,9 +241,7 @@ impl Run {
         let length = Reference.mel(record, &mut self.hand_buffer[..most]).unwrap_or(0) as usize;
         let room = generate::room(random, length).min(most);
         let byte = random.word() as u8;
-        let write = |out: &mut [u8]| Reference.mel(record, out);
-        let proved = |out: &mut [u8]| Proved.mel(record, out);
-        self.writer("mel", record, room, byte, proved, c::lfj_mel, write);
+        self.write(&MEL, record, room, byte);
     }
 }
 

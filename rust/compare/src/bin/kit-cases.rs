@@ -1,6 +1,8 @@
 //! Writes the conformance kit's cases anew: one file a group, into the folder named.
 //!
-//!     kit-cases FOLDER
+//! ```text
+//! kit-cases FOLDER
+//! ```
 
 use std::path::Path;
 use std::process::ExitCode;

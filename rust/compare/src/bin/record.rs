@@ -1,11 +1,13 @@
 //! Writes records by hand: turns a description in plain text into a record, and back.
 //! `samples/README.md` explains the descriptions.
 //!
-//!     record FILE            the record, as bytes; as hexadecimal on a terminal
-//!     record --hex FILE      the record in hexadecimal
-//!     record --names FILE    the variables' numbers and names
-//!     record --sheet FILE    the sheet, by the hand-written annotator
-//!     record --show FILE     the description of a record, which may be in hexadecimal
+//! ```text
+//! record FILE            the record, as bytes; as hexadecimal on a terminal
+//! record --hex FILE      the record in hexadecimal
+//! record --names FILE    the variables' numbers and names
+//! record --sheet FILE    the sheet, by the hand-written annotator
+//! record --show FILE     the description of a record, which may be in hexadecimal
+//! ```
 //!
 //! `-` instead of a file is standard input.
 

@@ -1,7 +1,9 @@
 //! How long each operation takes, proved and hand-written: both in this process, on the same
 //! buffers, by turns.
 //!
-//!     speed [WORD..]     only the lines that hold every word; all if none is given
+//! ```text
+//! speed [WORD..]     only the lines that hold every word; all if none is given
+//! ```
 
 use compare::build::Parts;
 use compare::generate::padded;

@@ -1,10 +1,15 @@
 //! Calls each operation of the proved library at its worst input. To be run on a small
 //! stack, which the calls have to do with: all buffers here are on the heap.
 //!
-//!     stack             every call, one line each
-//!     stack NAME        the one call of this name
-//!     stack --names     the names
-//!     stack --use KB    uses so much stack itself: shows that the limit holds
+//! ```text
+//! stack             every call, one line each
+//! stack NAME        the one call of this name
+//! stack --names     the names
+//! stack --use KB    uses so much stack itself: shows that the limit holds
+//! ```
+
+// Buffers of a few bytes would do on the stack; here it is what is measured.
+#![allow(clippy::useless_vec)]
 
 use compare::build::Parts;
 use compare::generate::padded;
