@@ -149,11 +149,15 @@ fn primary(text: &[u8], at: usize, depth: usize, rows: &mut [u32; 32]) -> Part
             Part::Bad(p) => Part::Bad(p),
             Part::Read(node) => {
                 let end = node.end;
+                let after = end + 1;
                 if peek(text, end) == 41 {
                     let kind = node.kind;
                     let set = node.set;
-                    let end = end + 1;
-                    Part::Read(Node { kind, set, end })
+                    Part::Read(Node {
+                        kind,
+                        set,
+                        end: after,
+                    })
                 } else {
                     Part::Bad(end)
                 }

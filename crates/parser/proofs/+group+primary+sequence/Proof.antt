@@ -7,7 +7,7 @@ use borrow.Author.Needs.{needs}
 use Rattle.parser.proofs.Tells.{links-sequence, links-group}
 use Rattle.parser.proofs.Runs.{inside}
 use Rattle.parser.proofs.Joins.{Looped, group-member, loop-start, loop-bad, loop-moved, loop-words, loop-more, loop-one, loop-end}
-use Rattle.parser.proofs.Primaries.{pri-deep, pri-bad, pri-shut, pri-left}
+use Rattle.parser.proofs.Primaries.{pri-deep, pri-bad, pri-shut, pri-left, pri-within}
 use borrow.Fn.Kinds.{In}
 use borrow.Fn.PlainCycle.{Measures, is, falls, and}
 use Rattle.parser.proofs.group.Reads as group
@@ -235,7 +235,18 @@ primary-enum-known-part-2 : (t : ℕ) → primary-lts.Need-enum-known-part-2 (
 ) (primary-at t) primary.Post
 primary-enum-known-part-2 t c = search needs
 
--- src/lib.rt:152:20
+-- src/lib.rt:152:29
+primary-add-after : (t : ℕ) → primary-lts.Need-add-after (
+  peek-reads.Asked,
+  peek-reads.Learnt,
+  sequence-below t,
+  sequence.Post,
+  number-reads.Asked,
+  number-reads.Learnt,
+) (primary-at t) primary.Post
+primary-add-after t c = let l = pri-within (c .before .before .before .before .before .before .before .before .before .args .text .now) _ _ _ (sym (c .before .before .before .before .before .before .before .peek .ensures) ∙ c .before .before .before .before .before .before .if1 .taken) (c .before .before .before .before .before .if2 .left) _ _ (c .before .before .before .sequence .ensures) _ (c .before .part2 .given .1) in omega arith
+
+-- src/lib.rt:153:20
 primary-peek-requires-2 : (t : ℕ) → primary-lts.Need-peek-requires-2 (
   peek-reads.Asked,
   peek-reads.Learnt,
@@ -246,18 +257,7 @@ primary-peek-requires-2 : (t : ℕ) → primary-lts.Need-peek-requires-2 (
 ) (primary-at t) primary.Post
 primary-peek-requires-2 t c κs = search needs
 
--- src/lib.rt:155:31
-primary-add-end : (t : ℕ) → primary-lts.Need-add-end (
-  peek-reads.Asked,
-  peek-reads.Learnt,
-  sequence-below t,
-  sequence.Post,
-  number-reads.Asked,
-  number-reads.Learnt,
-) (primary-at t) primary.Post
-primary-add-end t c = let l = inside (c .before .before .before .before .before .before .before .before .before .before .before .args .text .now) (c .before .before .before .part2 .given .0 .0 .end) 41 (omega arith) (sym (c .before .peek2 .ensures) ∙ c .if3 .taken) in omega arith
-
--- src/lib.rt:163:9
+-- src/lib.rt:167:9
 primary-number-requires : (t : ℕ) → primary-lts.Need-number-requires (
   peek-reads.Asked,
   peek-reads.Learnt,
@@ -489,8 +489,8 @@ pub +group+primary+sequence-spec : {M : Type 1} → statement M
     (primary-sequence-requires t)
     (primary-enum-known-part t)
     (primary-enum-known-part-2 t)
+    (primary-add-after t)
     (primary-peek-requires-2 t)
-    (primary-add-end t)
     (primary-number-requires t)
     (primary-returns-2 t)
     (primary-returns-3 t)

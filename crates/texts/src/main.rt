@@ -1,0 +1,54 @@
+// Reads lines `GOALS TEXT` from standard input, the text in hexadecimal, and prints what reading each text gives: `read`, or `refused NUMBER PLACE`.
+use libc::STDIN_FILENO;
+use libc::STDOUT_FILENO;
+use text_reading::Outcome;
+ghost use Prim.Native.Nat.{_≤_};
+
+fn print_outcome(o: Outcome) {
+    match o {
+        Outcome::Read => {
+            io::write_all(STDOUT_FILENO, b"read\n");
+        }
+        Outcome::Refused(r) => {
+            io::write_all(STDOUT_FILENO, b"refused ");
+            io::print_decimal(STDOUT_FILENO, r.number as u64);
+            io::write_all(STDOUT_FILENO, b" ");
+            io::print_decimal(STDOUT_FILENO, r.place as u64);
+            io::write_all(STDOUT_FILENO, b"\n");
+        }
+    }
+}
+
+fn print_text(text: &[u8], n: usize)
+    requires { ⌜ n ≤ 32 ⌝ }
+{
+    let answer = text_reading::read_text(text, n);
+    let outcome = answer.outcome;
+    print_outcome(outcome);
+}
+
+fn run_line(line: &[u8]) {
+    let mut text = [0u8; 1024];
+    let n = cases::number(cases::field(line, 0)) as usize;
+    let len = cases::bytes(cases::field(line, 1), &mut text);
+    if n <= 32 {
+        if len <= 1024 {
+            print_text(&text[..len], n);
+        }
+    }
+}
+
+fn run_all(s: &[u8]) {
+    let mut at: usize = 0;
+    while at < s.len() {
+        let end = cases::find(s, at, 10);
+        run_line(&s[at..end]);
+        at = end + 1;
+    }
+}
+
+fn main() {
+    let mut lines = io::large_buffer();
+    let n = io::read_full(STDIN_FILENO, &mut lines);
+    run_all(&lines[..n]);
+}
