@@ -1,0 +1,98 @@
+-- Two relations that agree on the goals have the same N and the same form; so the rows of a record's order settle what its order settles.
+use mathlib.Core.Path.{_≡_, refl, sym, ap, ap₂, _∙_}
+use mathlib.Core.Bool.{Bool, true, false}
+use mathlib.Core.List.{List}
+use mathlib.Core.Option.{Option, none, some}
+use Prim.Native.Nat.{ℕ, _≤_, _<_}
+use Rattle.reading.specs.declared.Reading.the-variants.{Fine}
+use Rattle.reading.specs.Reading.{reading}
+use Rattle.fields.specs.Fields.{goalCount}
+use Rattle.record.proofs.WellFormed.{fine-well-formed}
+use Rattle.graph.specs.Graph.{ahead, rowsOf}
+use Rattle.graph.specs.declared.Graph.{Graph}
+use Rattle.graph.proofs.Rows.{rows-say}
+use Rattle.expression.specs.Expr.{Expr, Goals, HouseForm, N, NoN, Order}
+use Rattle.expression.specs.Form.{form}
+use Rattle.expression.specs.Arrange.{Strict, formAny}
+use Rattle.expression.specs.Search.{Four, IsN, FirstN, firstN}
+use Rattle.expression.specs.Text.{text}
+use Rattle.expression.proofs.Search.{not-found, none-found, found-first, first-found}
+use Rattle.expression.proofs.Theorems.{form-any, form-is, form-unique, order-strict}
+use Rattle.order.specs.Order.{before, order}
+use Rattle.order.proofs.Theorems.{before-order}
+use Rattle.form.specs.Form.{settled, plan}
+use Rattle.form.proofs.Plans.{plan-fine}
+
+module _ (R Q : ℕ → ℕ → Bool) (n : ℕ) (agree : (i j : ℕ) → Goals n i → Goals n j → R i j ≡ Q i j) where
+  n-same : {a b c d : ℕ} → Goals n a → Goals n b → Goals n c → Goals n d → N R a b c d → N Q a b c d
+  n-same {a} {b} {c} {d} ga gb gc gd x =
+      record {
+        ac = sym (agree a c ga gc) ∙ x .ac;
+        bc = sym (agree b c gb gc) ∙ x .bc;
+        bd = sym (agree b d gb gd) ∙ x .bd;
+        ab = sym (agree a b ga gb) ∙ x .ab;
+        ba = sym (agree b a gb ga) ∙ x .ba;
+        ad = sym (agree a d ga gd) ∙ x .ad;
+        da = sym (agree d a gd ga) ∙ x .da;
+        cd = sym (agree c d gc gd) ∙ x .cd;
+        dc = sym (agree d c gd gc) ∙ x .dc;
+        ca = sym (agree c a gc ga) ∙ x .ca;
+        cb = sym (agree c b gc gb) ∙ x .cb;
+        db = sym (agree d b gd gb) ∙ x .db;
+      }
+
+  is-same : (q : Four) → IsN R n q → IsN Q n q
+  is-same q (x, ga, gb, gc, gd) = (n-same ga gb gc gd x, ga, gb, gc, gd)
+
+  strict-same : Strict Q (Goals n) → Strict R (Goals n)
+  strict-same o =
+      record {
+        unlike = λ i p. agree i i p p ∙ o .unlike i p;
+        chained = λ i j k p q r t u. agree i k p r ∙ o .chained i j k p q r (sym (agree i j p q) ∙ t) (sym (agree j k q r) ∙ u);
+      }
+
+  house-same : (e : Expr) → HouseForm R n e → HouseForm Q n e
+  house-same e f = record { uses = f .uses; order = λ i j p q. f .order i j p q ∙ agree i j p q; house = f .house }
+
+module _ (R Q : ℕ → ℕ → Bool) (n : ℕ) (agree : (i j : ℕ) → Goals n i → Goals n j → R i j ≡ Q i j) (from : 1 ≤ n) (o : Order Q (Goals n)) where
+  back : (i j : ℕ) → Goals n i → Goals n j → Q i j ≡ R i j
+  back i j p q = sym (agree i j p q)
+
+  pub strict-rows : Strict R (Goals n)
+  strict-rows = strict-same R Q n agree (order-strict Q (Goals n) o)
+
+  pub settled-same : settled (firstN R n) (text (formAny R n)) ≡ settled (firstN Q n) (text (form Q n))
+  settled-same = go (firstN R n) refl
+    where
+      go : (x : Option Four) → firstN R n ≡ x → settled (firstN R n) (text (formAny R n)) ≡ settled (firstN Q n) (text (form Q n))
+      go none e =
+          let free = not-found R n e in
+          let free′ : NoN Q (Goals n) = λ a b c d ga gb gc gd x. free a b c d ga gb gc gd (n-same Q R n back ga gb gc gd x) in
+          let same = form-unique Q n (formAny R n) (form Q n) (house-same R Q n agree (formAny R n) (form-any R n strict-rows free from)) (form-is Q n o free′ from) in
+          ap₂ (λ (y : Option Four) (z : Expr). settled y (text z)) (e ∙ sym (none-found Q n free′)) same
+      go (some q) e =
+          let f = found-first R n q e in
+          let g = first-found Q n q (record { is = is-same R Q n agree q (f .is); first = λ r x. f .first r (is-same Q R n back r x) }) in
+          ap (λ (y : Option Four). settled y (text (formAny R n))) e ∙ sym (ap (λ (y : Option Four). settled y (text (form Q n))) g)
+
+-- ---- the rows of a record's order
+module _ (b : List ℕ) (fine : reading b ≡ Fine) where
+  pub goals-from : 1 ≤ goalCount b
+  goals-from = fine-well-formed b fine .goals-from
+
+  pub goals-to : goalCount b ≤ 32
+  goals-to = fine-well-formed b fine .goals-to
+
+  rows-agree : (i j : ℕ) → Goals (goalCount b) i → Goals (goalCount b) j → ahead (rowsOf (goalCount b) (before b)) i j ≡ before b i j
+  rows-agree i j p q = rows-say (goalCount b) (before b) i j goals-to (p .0) (p .1) (q .0) (q .1)
+
+  module _ (g : Graph) (e : g ≡ order b) where
+    pub graph-asks : (1 ≤ g .n) × (g .n ≤ 32) × Strict (ahead (g .rows)) (Goals (g .n))
+    unfolding order
+    graph-asks = rw e (goals-from, goals-to, strict-rows (ahead (rowsOf (goalCount b) (before b))) (before b) (goalCount b) rows-agree goals-from (before-order b))
+
+    pub graph-plan : settled (firstN (ahead (g .rows)) (g .n)) (text (formAny (ahead (g .rows)) (g .n))) ≡ plan b
+    unfolding order
+    graph-plan =
+        ap (λ (x : Graph). settled (firstN (ahead (x .rows)) (x .n)) (text (formAny (ahead (x .rows)) (x .n)))) e
+        ∙ settled-same (ahead (rowsOf (goalCount b) (before b))) (before b) (goalCount b) rows-agree goals-from (before-order b) ∙ sym (plan-fine b fine)

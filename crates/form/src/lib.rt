@@ -1,0 +1,120 @@
+// Writing the house form of a record's order, and estimating its length.
+use first_n::Found;
+use first_n::Four;
+use graph::Graph;
+use reading::Reading;
+use refusal::Refusal;
+ghost use mathlib.Core.Path.{_≡_};
+ghost use Prim.Native.Nat.{_≤_};
+ghost use denote.Ref.{now};
+ghost use Rattle.graph.specs.Graph.{ahead};
+ghost use Rattle.expression.specs.Expr.{Goals};
+ghost use Rattle.expression.specs.Arrange.{Strict, formAny};
+ghost use Rattle.expression.specs.Search.{firstN};
+ghost use Rattle.expression.specs.Text as T;
+ghost use Rattle.fields.specs.Fields.{goalCount};
+ghost use Rattle.order.specs.Order as O;
+ghost use Rattle.form.specs.Form as F;
+
+pub enum Written {
+    // The text's length.
+    Done(usize),
+    // The first four goals that show that no expression has the order.
+    NoForm(Four),
+    Refused(Refusal),
+}
+
+pub enum Estimate {
+    Length(usize),
+    NoForm(Four),
+    Refused(Refusal),
+}
+
+// Writes the form of the goals 1 to n in the order that the rows say, any strict order; or refuses with 13, or with 12.
+fn write_rows(rows: &[u32; 32], n: usize, out: &mut [u8]) -> Written
+    requires { ⌜ (1 ≤ n) × (n ≤ 32) × Strict (ahead (now rows)) (Goals n) ⌝ }
+    ensures { λ r.
+        ⌜ F.values r
+        ≡ F.answer (F.settled (firstN (ahead (now (rows .entry))) n) (T.text (formAny (ahead (now (rows .entry))) n))) (now (out .entry)) ⌝ }
+    ensures { λ r.
+        ⌜ now (out .exit)
+        ≡ F.filled (F.settled (firstN (ahead (now (rows .entry))) n) (T.text (formAny (ahead (now (rows .entry))) n))) (now (out .entry)) ⌝ }
+{
+    let prior = graph::transposed(rows, n);
+    let found = first_n::first_n(rows, &prior, n);
+    match found {
+        Found::At(q) => Written::NoForm(q),
+        Found::Nothing => {
+            let all = sets::below32(n);
+            let mut nowhere = [0u8; 0];
+            let need = split::put_form(&mut nowhere, 0, rows, &prior, all, false);
+            let room = out.len();
+            if room < need {
+                return Written::Refused(Refusal {
+                    number: 12,
+                    place: need,
+                });
+            }
+            split::put_form(out, 0, rows, &prior, all, false);
+            Written::Done(need)
+        }
+    }
+}
+
+// The length of that form's text, counted; or refusal 13.
+fn length_rows(rows: &[u32; 32], n: usize) -> Estimate
+    requires { ⌜ (1 ≤ n) × (n ≤ 32) × Strict (ahead (now rows)) (Goals n) ⌝ }
+    ensures { λ r.
+        ⌜ F.Estimated (F.settled (firstN (ahead (now (rows .entry))) n) (T.text (formAny (ahead (now (rows .entry))) n))) (F.estimate r) ⌝ }
+{
+    let prior = graph::transposed(rows, n);
+    let found = first_n::first_n(rows, &prior, n);
+    match found {
+        Found::At(q) => Estimate::NoForm(q),
+        Found::Nothing => {
+            let all = sets::below32(n);
+            let mut nowhere = [0u8; 0];
+            let need = split::put_form(&mut nowhere, 0, rows, &prior, all, false);
+            Estimate::Length(need)
+        }
+    }
+}
+
+// The record's order. 01: "the closure is taken first".
+fn closed(b: &[u8]) -> Graph
+    requires { ⌜ goalCount (now b) ≤ 32 ⌝ }
+    ensures { λ r. ⌜ r ≡ O.order (now (b .entry)) ⌝ }
+{
+    order::order_of(b)
+}
+
+// Writes the form of a record into a lent buffer.
+pub fn write(b: &[u8], out: &mut [u8]) -> Written
+    ensures { λ r. ⌜ F.values r ≡ F.answer (F.plan (now (b .entry))) (now (out .entry)) ⌝ }
+    ensures { λ r. ⌜ now (out .exit) ≡ F.filled (F.plan (now (b .entry))) (now (out .entry)) ⌝ }
+{
+    let s = record::read(b);
+    match s {
+        Reading::Refused(r) => Written::Refused(r),
+        Reading::Fine => {
+            let g = closed(b);
+            let rows = g.rows;
+            write_rows(&rows, g.n, out)
+        }
+    }
+}
+
+// Estimates the length of a record's form.
+pub fn length(b: &[u8]) -> Estimate
+    ensures { λ r. ⌜ F.Estimated (F.plan (now (b .entry))) (F.estimate r) ⌝ }
+{
+    let s = record::read(b);
+    match s {
+        Reading::Refused(r) => Estimate::Refused(r),
+        Reading::Fine => {
+            let g = closed(b);
+            let rows = g.rows;
+            length_rows(&rows, g.n)
+        }
+    }
+}
