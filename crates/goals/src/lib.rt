@@ -65,17 +65,9 @@ pub fn goal(b: &[u8], at: usize, v: u32, k: usize, s: Reading) -> Reading
     let size = b.len();
     let text = at + 9;
     let bad = first_bad(b, text, k);
-    let fixed = text <= size;
-    let below = sets::within(fields::set_at(b, at), v);
-    let length = (1 <= k) & (k <= 40);
-    let whole = text + k <= size;
-    let clean = bad == text + k;
-    if fixed & below & length & whole & clean {
-        return s;
-    }
-    let s = reading::also(s, fixed, 7, size);
-    let s = reading::also(s, below, 8, at);
-    let s = reading::also(s, length, 9, at + 8);
-    let s = reading::also(s, whole, 7, size);
-    reading::also(s, clean, 9, bad)
+    let s = reading::also(s, text <= size, 7, size);
+    let s = reading::also(s, sets::within(fields::set_at(b, at), v), 8, at);
+    let s = reading::also(s, (1 <= k) & (k <= 40), 9, at + 8);
+    let s = reading::also(s, text + k <= size, 7, size);
+    reading::also(s, bad == text + k, 9, bad)
 }
