@@ -28,16 +28,8 @@ module _ (b : List ℕ) (at : ℕ) where
   unfolding number
   number-two = let e : at + 0 ≡ at = omega arith in rw e (omega arith)
 
-  pub number-four : number b at 4 ≡ (byte b at * 256 + byte b (at + 1)) * 65536 + (byte b (at + 2) * 256 + byte b (at + 3))
+  pub number-eight : number b at 8
+      ≡ ((byte b at * 0x100000000000000 + byte b (at + 1) * 0x1000000000000) + (byte b (at + 2) * 0x10000000000 + byte b (at + 3) * 0x100000000))
+      + ((byte b (at + 4) * 0x1000000 + byte b (at + 5) * 0x10000) + (byte b (at + 6) * 0x100 + byte b (at + 7)))
   unfolding number
-  number-four = let e : at + 0 ≡ at = omega arith in rw e (omega arith)
-
-  pub number-eight : number b at 8 ≡ number b at 4 * 0x100000000 + number b (at + 4) 4
-  unfolding number
-  number-eight =
-      let e : at + 0 ≡ at = omega arith in
-      let f : at + 4 + 0 ≡ at + 4 = omega arith in
-      let f1 : at + 4 + 1 ≡ at + 5 = omega arith in
-      let f2 : at + 4 + 2 ≡ at + 6 = omega arith in
-      let f3 : at + 4 + 3 ≡ at + 7 = omega arith in
-      rw (e, f, f1, f2, f3) (omega arith)
+  number-eight = let e : at + 0 ≡ at = omega arith in rw e (omega arith)

@@ -46,15 +46,16 @@ pub fn number(b: &[u8], at: usize, k: usize) -> u64
     r
 }
 
-// The same for four bytes that are there.
-fn four(b: &[u8], at: usize) -> u64
-    requires { ⌜ at + 4 ≤ length (now b) ⌝ }
-    ensures { λ r. ⌜ r ≡ F.number (now (b .entry)) at 4 ⌝ }
-    ensures { λ r. ⌜ r < 2 ^ 32 ⌝ }
+// The variable set at `at`, whose bytes are all there: one load.
+fn whole_set(b: &[u8], at: usize) -> u64
+    requires { ⌜ at + 8 ≤ length (now b) ⌝ }
+    ensures { λ r. ⌜ r ≡ F.set (now (b .entry)) at ⌝ }
 {
-    let high = wide(b[at]) * 256 + wide(b[at + 1]);
-    let low = wide(b[at + 2]) * 256 + wide(b[at + 3]);
-    high * 65536 + low
+    let first = wide(b[at]) * 0x100_0000_0000_0000 + wide(b[at + 1]) * 0x1_0000_0000_0000;
+    let second = wide(b[at + 2]) * 0x100_0000_0000 + wide(b[at + 3]) * 0x1_0000_0000;
+    let third = wide(b[at + 4]) * 0x100_0000 + wide(b[at + 5]) * 0x1_0000;
+    let fourth = wide(b[at + 6]) * 0x100 + wide(b[at + 7]);
+    (first + second) + (third + fourth)
 }
 
 // The variable set at `at`.
@@ -63,7 +64,7 @@ pub fn set_at(b: &[u8], at: usize) -> u64
     ensures { λ r. ⌜ r ≡ F.set (now (b .entry)) at ⌝ }
 {
     if at + 8 <= b.len() {
-        return four(b, at) * 0x1_0000_0000 + four(b, at + 4);
+        return whole_set(b, at);
     }
     number(b, at, 8)
 }

@@ -57,31 +57,31 @@ mul-row : tie.Need-mul-row Inv-loop μ-loop
 mul-row c = omega arith
 
 array-read-row : tie.Need-array-read-row Inv-loop μ-loop
-array-read-row c = both c .0
+array-read-row c = omega (arith, both c)
 
 shl-row : tie.Need-shl-row Inv-loop μ-loop
-shl-row c = both c .1
+shl-row c = omega (arith, both c)
 
 mul-row-2 : tie.Need-mul-row-2 Inv-loop μ-loop
 mul-row-2 c = omega arith
 
 array-write-row : tie.Need-array-write-row Inv-loop μ-loop
-array-write-row c = both c .0
+array-write-row c = omega (arith, both c)
 
 mul-row-3 : tie.Need-mul-row-3 Inv-loop μ-loop
 mul-row-3 c = omega arith
 
 array-read-row-2 : tie.Need-array-read-row-2 Inv-loop μ-loop
-array-read-row-2 c = both c .1
+array-read-row-2 c = omega (arith, both c)
 
 shl-row-2 : tie.Need-shl-row-2 Inv-loop μ-loop
-shl-row-2 c = both c .0
+shl-row-2 c = omega (arith, both c)
 
 mul-row-4 : tie.Need-mul-row-4 Inv-loop μ-loop
 mul-row-4 c = omega arith
 
 array-write-row-2 : tie.Need-array-write-row-2 Inv-loop μ-loop
-array-write-row-2 c = both c .1
+array-write-row-2 c = omega (arith, both c)
 
 add-k : tie.Need-add-k Inv-loop μ-loop
 add-k c = omega arith
