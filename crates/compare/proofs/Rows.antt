@@ -1,9 +1,9 @@
 -- Two orders compared row by row: the goals that are in just one of two rows.
 use mathlib.Core.Path.{_≡_, refl, sym, ap, ap₂, _∙_, subst}
-use mathlib.Core.Bool.{Bool, true, false, not, _&&_, _||_, cond, Bool·beq, true≢false, false≢true}
+use mathlib.Core.Bool.{Bool, true, false, not, _&&_, _||_, cond, Bool·beq}
 use mathlib.Core.List.{List}
 use mathlib.Core.Option.{Option, none, some}
-use Prim.Native.Nat.{ℕ, zero, suc, _+_, _-_, _^_, _<_, _≤_}
+use Prim.Native.Nat.{ℕ, suc, _+_, _^_, _<_, _≤_}
 use native.Mathlib.Numerals.{add-one}
 use native.Mathlib.Omega.{arith}
 use native.Mathlib.Nat.{lt-of-lt-of-le}
@@ -11,7 +11,7 @@ use lib.Dec.{ltb}
 use lib.ListN.{getD}
 use lib.Pow.{pow-pos, pow-mono}
 use borrow.Author.Tests.{lt-ltb, ltb-true}
-use Rattle.logic.proofs.Bools.{and-l, and-r}
+use Rattle.logic.proofs.Bools.{and-l}
 use Rattle.sets.specs.Sets.{has, union, meet, without, below, first}
 use Rattle.sets.proofs.Laws.{has-union, has-meet, has-without, has-below, has-empty, first-least, first-member}
 use Rattle.sets.proofs.Builder.{meet-lt}
@@ -20,11 +20,10 @@ use Rattle.graph.specs.Graph.{ahead, rowsOf}
 use Rattle.graph.proofs.Rows.{rows-say}
 use Rattle.expression.specs.Expr.{Expr, before}
 use Rattle.expression.specs.Search.{firstIn}
-use Rattle.first_n.proofs.Scan.{Passed, passed-none, passed-more, passed-hit, passed-all, passed-skip, nowhere}
+use Rattle.first_n.proofs.Scan.{Passed, passed-more, passed-hit, passed-all, passed-skip, nowhere}
 use Rattle.grammar.specs.Reading.{refusal, answer, readText}
 use Rattle.grammar.specs.Check.{differ, firstDiffer}
 use Rattle.grammar.proofs.Differences.{differ-cong}
-use Rattle.compare.specs.declared.Verdict.{Verdict}
 use Rattle.compare.specs.declared.Verdict.the-variants.{Same, Differs}
 use Rattle.compare.specs.Verdicts.{said, verdictOf}
 use Rattle.grammar.specs.Check as Check
