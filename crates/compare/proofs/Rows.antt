@@ -1,9 +1,9 @@
 -- Two orders compared row by row: the goals that are in just one of two rows.
 use mathlib.Core.Path.{_≡_, refl, sym, ap, ap₂, _∙_, subst}
-use mathlib.Core.Bool.{Bool, true, false, not, _&&_, _||_, cond, Bool·beq, true≢false, false≢true}
+use mathlib.Core.Bool.{Bool, true, false, not, _&&_, _||_, cond, Bool·beq}
 use mathlib.Core.List.{List}
 use mathlib.Core.Option.{Option, none, some}
-use Prim.Native.Nat.{ℕ, zero, suc, _+_, _-_, _^_, _<_, _≤_}
+use Prim.Native.Nat.{ℕ, suc, _+_, _^_, _<_, _≤_}
 use native.Mathlib.Numerals.{add-one}
 use native.Mathlib.Omega.{arith}
 use native.Mathlib.Nat.{lt-of-lt-of-le}
@@ -11,16 +11,19 @@ use lib.Dec.{ltb}
 use lib.ListN.{getD}
 use lib.Pow.{pow-pos, pow-mono}
 use borrow.Author.Tests.{lt-ltb, ltb-true}
-use Rattle.logic.proofs.Bools.{and-l, and-r}
+use Rattle.logic.proofs.Bools.{and-l}
 use Rattle.sets.specs.Sets.{has, union, meet, without, below, first}
 use Rattle.sets.proofs.Laws.{has-union, has-meet, has-without, has-below, has-empty, first-least, first-member}
 use Rattle.sets.proofs.Builder.{meet-lt}
 use Rattle.sets.proofs.Members.{first-in}
-use Rattle.graph.specs.Graph.{ahead}
+use Rattle.graph.specs.Graph.{ahead, rowsOf}
+use Rattle.graph.proofs.Rows.{rows-say}
+use Rattle.expression.specs.Expr.{Expr, before}
 use Rattle.expression.specs.Search.{firstIn}
-use Rattle.first_n.proofs.Scan.{Passed, passed-none, passed-more, passed-hit, passed-all, passed-skip, nowhere}
+use Rattle.first_n.proofs.Scan.{Passed, passed-more, passed-hit, passed-all, passed-skip, nowhere}
+use Rattle.grammar.specs.Reading.{refusal, answer, readText}
 use Rattle.grammar.specs.Check.{differ, firstDiffer}
-use Rattle.compare.specs.declared.Verdict.{Verdict}
+use Rattle.grammar.proofs.Differences.{differ-cong}
 use Rattle.compare.specs.declared.Verdict.the-variants.{Same, Differs}
 use Rattle.compare.specs.Verdicts.{said, verdictOf}
 use Rattle.grammar.specs.Check as Check
@@ -111,3 +114,21 @@ module _ (n : ℕ) (a b : List ℕ) where
 pub said-verdict : (o : Option (ℕ × ℕ)) → verdictOf (said o) ≡ Check.verdict o
 said-verdict none = refl
 said-verdict (some p) = refl
+
+-- the rows of two orders differ where the orders do
+pub rows-differ : (n : ℕ) (R S : ℕ → ℕ → Bool) → n ≤ 32 → firstDiffer n (ahead (rowsOf n R)) (ahead (rowsOf n S)) ≡ firstDiffer n R S
+rows-differ n R S few =
+    differ-cong n (ahead (rowsOf n R)) R (ahead (rowsOf n S)) S (λ i j g h. rows-say n R i j few (g .0) (g .1) (h .0) (h .1))
+    (λ i j g h. rows-say n S i j few (g .0) (g .1) (h .0) (h .1))
+
+-- ---- the check, from the reading of the text and the comparison of the rows
+pub checked-refused : (n : ℕ) (R : ℕ → ℕ → Bool) (t : List ℕ) (k p : ℕ) → readText n t ≡ refusal k p → Check.checked n R t ≡ refusal k p
+unfolding Check.checked
+checked-refused n R t k p h = ap (λ r. Check.judged n R r) h
+
+pub checked-compared : (n : ℕ) (R : ℕ → ℕ → Bool) (t : List ℕ) (e : Expr) → n ≤ 32 → readText n t ≡ answer e
+    → Check.checked n R t ≡ answer (verdictOf (said (firstDiffer n (ahead (rowsOf n R)) (ahead (rowsOf n (before e))))))
+unfolding Check.checked
+checked-compared n R t e few h =
+    ap (λ r. Check.judged n R r) h
+    ∙ ap (λ o. answer o) (sym (said-verdict (firstDiffer n R (before e))) ∙ ap (λ o. verdictOf (said o)) (sym (rows-differ n R (before e) few)))

@@ -2,7 +2,6 @@
 use mathlib.Core.Option.{Option, none, some}
 use Prim.Native.Nat.{ℕ}
 use Rattle.grammar.specs.Check as Check
-use Rattle.compare.specs.declared.Pair.{Pair}
 use Rattle.compare.specs.declared.Verdict.{Verdict}
 use Rattle.compare.specs.declared.Verdict.the-variants.{Same, Differs}
 

@@ -2,13 +2,13 @@
 use mathlib.Core.Path.{_≡_, refl, sym, ap, _∙_}
 use mathlib.Core.Bool.{Bool, true, false, cond}
 use mathlib.Core.List.{List, [], _∷_, _++_, append-assoc, append-nil}
-use mathlib.Core.Option.{Option, none, some}
-use Prim.Native.Nat.{ℕ, zero, suc, _+_, _<_, _≤_}
+use mathlib.Core.Option.{none, some}
+use Prim.Native.Nat.{ℕ, zero, suc}
 use native.Mathlib.Omega.{arith}
-use Rattle.expression.specs.Expr.{Expr, goal, join, Members, one, more}
+use Rattle.expression.specs.Expr.{Expr, goal, Members}
 use Rattle.expression.specs.Text.{mark}
 use Rattle.grammar.specs.Grammar.{Number, single, double, Joined, alone, several, Others, last, next, Member, group, number, parens, Text}
-use Rattle.grammar.specs.Reader.{Sign, digit, joiner, opener, closer, sign, Front, close, push, Level, Phase, due, begun, done, State, state, Reading, accepted, refused, run, read}
+use Rattle.grammar.specs.Reader.{Front, close, push, Level, Phase, due, begun, done, State, state, accepted, run, read}
 use Rattle.grammar.proofs.Signs.{sign-digit}
 
 -- What follows, u, ends a number; a group; a sequence.

@@ -1,14 +1,14 @@
 -- The reader decides the grammar, each text has at most one expression, and the place of a refusal is the paper's.
 use mathlib.Core.Path.{_≡_, refl, sym, ap, _∙_, subst}
-use mathlib.Core.List.{List, [], _∷_, _++_, append-assoc, append-nil}
+use mathlib.Core.List.{List, [], _∷_, _++_, append-assoc}
 use mathlib.Core.Logic.{_⊎_, inl, inr, ⊎-elim, dite, _↔_}
-use Prim.Native.Nat.{ℕ, zero, suc, _+_, _<_, _≤_}
+use Prim.Native.Nat.{ℕ, zero, suc, _<_, _≤_}
 use native.Mathlib.Omega.{arith}
 use native.Mathlib.Decide.{decLt}
 use lib.ListN.{length, take, drop, length-append, take-append-drop}
 use Rattle.expression.specs.Expr.{Expr}
 use Rattle.grammar.specs.Grammar.{Text, Grammatical, Begins, BadAt}
-use Rattle.grammar.specs.Reader.{Reading, accepted, refused, run, read, start}
+use Rattle.grammar.specs.Reader.{Reading, accepted, refused, read, start}
 use Rattle.grammar.proofs.Reached.{reached-start}
 use Rattle.grammar.proofs.Complete.{complete}
 use Rattle.grammar.proofs.Sound.{sound, not-both, Dead, Cut, refusal}

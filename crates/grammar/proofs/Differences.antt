@@ -1,14 +1,15 @@
 -- What the comparison of two orders says.
 --     same-order           there is no first difference exactly if the orders agree on the goals 1 to n
 --     first-difference     the first difference in words
-use mathlib.Core.Path.{_≡_, refl, sym, ap, _∙_, subst}
+--     differ-cong          orders that agree on the goals 1 to n differ alike
+use mathlib.Core.Path.{_≡_, refl, sym, ap, ap₂, _∙_, subst}
 use mathlib.Core.Bool.{Bool, true, false, cond, Bool·beq, true≢false}
 use mathlib.Core.Option.{Option, none, some}
 use mathlib.Core.Logic.{⊎-elim, _↔_}
 use Prim.Native.Nat.{ℕ, zero, suc, _+_, _≤_, _<_}
 use native.Mathlib.Omega.{arith}
 use Rattle.expression.specs.Expr.{Goals}
-use Rattle.expression.specs.Search.{firstIn}
+use Rattle.expression.specs.Search.{orElse, firstIn}
 use Rattle.expression.proofs.Bools.{test, beq-true}
 use Rattle.expression.proofs.Search.{first-none, first-some}
 use Rattle.grammar.specs.Check.{differ, firstDiffer}
@@ -67,3 +68,17 @@ first-difference n R S i j h =
       rows-before = λ p q lo lt g. differ-none R S p q (first-none (λ b. differ R S p b) n 1 (o .4 p lo (omega arith)) q (g .0) (omega (arith, g .1)));
       before-in-row = λ q lo lt. subst (λ z. R z q ≡ S z q) ei (differ-none R S (o .0) q (u .4 q lo (omega arith)));
     }
+
+-- ---- orders that agree
+first-cong : {A : Type 0} (f g : ℕ → Option A) (a c : ℕ) → ((i : ℕ) → a ≤ i → i < a + c → f i ≡ g i) → firstIn f a c ≡ firstIn g a c
+first-cong f g a zero h = refl
+first-cong f g a (suc c) h =
+    ap₂ (λ x y. orElse x y) (h a (omega arith) (omega arith)) (first-cong f g (suc a) c (λ i lo hi. h i (omega arith) (omega arith)))
+
+pub differ-cong : (n : ℕ) (R R′ S S′ : ℕ → ℕ → Bool) → ((i j : ℕ) → Goals n i → Goals n j → R i j ≡ R′ i j) → ((i j : ℕ) → Goals n i → Goals n j → S i j ≡ S′ i j)
+    → firstDiffer n R S ≡ firstDiffer n R′ S′
+unfolding firstDiffer
+differ-cong n R R′ S S′ r s =
+    first-cong (λ i. firstIn (λ j. differ R S i j) 1 n) (λ i. firstIn (λ j. differ R′ S′ i j) 1 n) 1 n (λ i lo hi.
+    first-cong (λ j. differ R S i j) (λ j. differ R′ S′ i j) 1 n (λ j lo′ hi′.
+    ap₂ (λ a b. cond {A = Option (ℕ × ℕ)} (Bool·beq a b) none (some (i, j))) (r i j (lo, omega arith) (lo′, omega arith)) (s i j (lo, omega arith) (lo′, omega arith))))

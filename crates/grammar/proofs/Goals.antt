@@ -1,22 +1,37 @@
 -- The numbers found in a text of the grammar are the goals of its expression, and nothing is wrong with them exactly if the expression uses each goal once.
-use mathlib.Core.Path.{_≡_, refl, sym, ap, ap₂, _∙_, subst}
-use mathlib.Core.Bool.{Bool, true, false, _&&_, _||_, cond, true≢false, false≢true}
+use mathlib.Core.Path.{_≡_, refl, sym, ap, _∙_, subst}
+use mathlib.Core.Bool.{Bool, true, false, _&&_, _||_, cond}
 use mathlib.Core.List.{List, [], _∷_, _++_, append-assoc, append-nil}
 use mathlib.Core.Option.{Option, none, some}
 use mathlib.Core.Logic.{_⊎_, inl, inr, ⊎-elim, dite, _↔_}
-use Prim.Native.Nat.{ℕ, zero, suc, _+_, _*_, _<_, _≤_}
+use Prim.Native.Nat.{ℕ, zero, suc, _+_, _<_, _≤_}
 use native.Mathlib.Omega.{arith}
-use native.Mathlib.Decide.{decLe, decLt}
+use native.Mathlib.Decide.{decLe}
 use lib.Dec.{eqb, leb, ltb}
 use lib.ListN.{length}
-use borrow.Author.Tests.{eqb-true, eqb-false, eq-eqb, ne-eqb, leb-true, leb-false, le-leb, lt-leb, ltb-true, ltb-false, le-ltb}
+use borrow.Author.Tests.{eqb-true, eqb-false, eq-eqb, ne-eqb, leb-true, le-leb, lt-leb, ltb-true, ltb-false, le-ltb}
 use Rattle.expression.specs.Expr.{Expr, goal, join, Members, one, more, times, timesM, UsesOnce}
+use Rattle.expression.specs.Search.{orElse}
 use Rattle.expression.specs.Text.{mark}
-use Rattle.expression.proofs.Bools.{test, by-test, and-true, or-false, or-true}
+use Rattle.expression.proofs.Bools.{test, and-true, or-false, or-true}
 use Rattle.grammar.specs.Grammar.{Number, single, double, Joined, alone, several, Others, last, next, Member, group, number, parens, Text}
-use Rattle.grammar.specs.Reader.{sign}
-use Rattle.grammar.specs.Numbers.{Found, found, fresh, grown, scan, numbers, among, fault, missing, orElse, misuse, goals, goalsM, count}
+use Rattle.grammar.specs.Numbers.{Found, found, fresh, grown, scan, numbers, among, fault, missing, misuse}
 use Rattle.grammar.proofs.Signs.{sign-digit}
+
+-- The numbers of an expression from left to right.
+abbrev mutual
+  pub goals : Expr → List ℕ
+  goals (goal g) = g ∷ []
+  goals (join k e ms) = goals e ++ goalsM ms
+
+  pub goalsM : Members → List ℕ
+  goalsM (one e) = goals e
+  goalsM (more e ms) = goals e ++ goalsM ms
+
+-- How often i stands in a list.
+abbrev pub count : List ℕ → ℕ → ℕ
+count [] i = 0
+count (v ∷ l) i = cond (eqb i v) 1 0 + count l i
 
 abbrev pub values : List Found → List ℕ
 values [] = []

@@ -6,7 +6,7 @@ use mathlib.Core.Path.{_≡_, refl, sym, ap, _∙_, subst}
 use mathlib.Core.Bool.{Bool}
 use mathlib.Core.List.{List}
 use mathlib.Core.Option.{Option, none, some}
-use mathlib.Core.Logic.{_⊎_, _↔_}
+use mathlib.Core.Logic.{_↔_}
 use Prim.Native.Nat.{ℕ, _≤_}
 use lib.ListN.{length}
 use Rattle.expression.specs.Expr.{Expr, before, UsesOnce, HasOrder}
@@ -14,7 +14,7 @@ use Rattle.grammar.specs.Grammar.{Text, BadAt}
 use Rattle.grammar.specs.Reading.{Ruling, refusal, answer, readText}
 use Rattle.grammar.specs.Check.{Verdict, same, differs, firstDiffer, verdict, judged, checked}
 use Rattle.grammar.proofs.Differences.{same-order, FirstDifference, first-difference}
-use Rattle.grammar.proofs.Readings.{Misused, read-answer, read-16, Says, read-says}
+use Rattle.grammar.proofs.Readings.{read-answer, read-16, Says, read-says}
 
 -- rulings are told apart
 abbrev Same : Ruling Verdict → Type 0

@@ -5,10 +5,10 @@ use mathlib.Core.List.{List, [], _∷_, _++_, append-assoc, append-nil}
 use mathlib.Core.Option.{Option, none, some}
 use Prim.Native.Nat.{ℕ, zero, suc, _+_, _<_, _≤_}
 use native.Mathlib.Omega.{arith}
-use Rattle.expression.specs.Expr.{Expr, goal, join, Members, one, more}
+use Rattle.expression.specs.Expr.{Expr, goal, Members, one, more}
 use Rattle.expression.specs.Text.{mark}
-use Rattle.grammar.specs.Grammar.{Number, single, double, Joined, alone, several, Others, last, next, Member, group, number, parens, Begins}
-use Rattle.grammar.specs.Reader.{Sign, digit, joiner, opener, closer, other, Front, close, push, Level, Phase, due, begun, done, State, state, opens, starts, closes, goes, grows, step}
+use Rattle.grammar.specs.Grammar.{single, double, Joined, alone, several, Others, last, next, Member, group, number, parens, Begins}
+use Rattle.grammar.specs.Reader.{Sign, digit, joiner, opener, closer, other, Front, close, push, Level, Phase, due, begun, done, State, opens, starts, closes, goes, grows, step}
 use Rattle.grammar.proofs.Signs.{Is}
 
 -- p is the text of a front f of a join of kind k.

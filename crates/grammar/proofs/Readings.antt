@@ -13,10 +13,11 @@ use lib.Dec.{leb}
 use lib.ListN.{length}
 use borrow.Author.Tests.{leb-true, le-leb}
 use Rattle.expression.specs.Expr.{Expr, UsesOnce}
+use Rattle.expression.specs.Search.{orElse}
 use Rattle.expression.proofs.Bools.{and-true}
 use Rattle.grammar.specs.Grammar.{Text, BadAt}
 use Rattle.grammar.specs.Reader.{Reading, accepted, refused, read}
-use Rattle.grammar.specs.Numbers.{numbers, fault, missing, orElse, misuse}
+use Rattle.grammar.specs.Numbers.{numbers, fault, missing, misuse}
 use Rattle.grammar.specs.Reading.{Ruling, refusal, answer, numbered, decided, readText}
 use Rattle.grammar.proofs.Decides.{read-accepts, read-refuses}
 use Rattle.grammar.proofs.Goals.{misuse-none, Leftmost, fault-leftmost}

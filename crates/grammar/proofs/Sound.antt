@@ -1,14 +1,14 @@
 -- What the reader accepts is in the grammar; where it refuses, the text before can be completed, and no text goes on so.
 use mathlib.Core.Path.{_≡_, refl, sym, ap, _∙_, subst}
-use mathlib.Core.Bool.{Bool, true, false}
+use mathlib.Core.Bool.{true}
 use mathlib.Core.List.{List, [], _∷_, _++_, append-assoc, append-nil}
 use mathlib.Core.Option.{Option, none, some}
-use Prim.Native.Nat.{ℕ, zero, suc, _+_, _<_, _≤_}
+use Prim.Native.Nat.{ℕ, suc, _+_}
 use native.Mathlib.Omega.{arith}
 use lib.ListN.{length}
 use Rattle.expression.specs.Expr.{Expr, goal}
 use Rattle.grammar.specs.Grammar.{Joined, Begins}
-use Rattle.grammar.specs.Reader.{Front, close, Level, Phase, due, begun, done, State, state, sign, step, Reading, accepted, refused, whole, ends, onward, run, read}
+use Rattle.grammar.specs.Reader.{Front, close, Level, Phase, due, begun, done, State, sign, step, Reading, accepted, refused, whole, ends, onward, run}
 use Rattle.grammar.proofs.Signs.{sign-is}
 use Rattle.grammar.proofs.Reached.{Reached, Ok, step-ok, ended, level-joined, viable}
 

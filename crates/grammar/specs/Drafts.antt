@@ -1,13 +1,13 @@
 -- The drafts on the check of an expression, and texts beside them, as one table that holds by computation.
 use mathlib.Core.Path.{_≡_, refl}
 use mathlib.Core.Bool.{Bool, true, false, _&&_}
-use mathlib.Core.List.{List, [], _∷_, _++_}
+use mathlib.Core.List.{[], _∷_, _++_}
 use Prim.Native.Nat.{ℕ}
 use lib.Dec.{eqb}
 use lib.ListN.{replicate}
-use Rattle.expression.specs.Expr.{Expr, goal, join, Members, one, more}
-use Rattle.grammar.specs.Reader.{read, Reading, accepted, refused}
-use Rattle.grammar.specs.Reading.{Ruling, refusal, answer, readText}
+use Rattle.expression.specs.Expr.{goal, join, one}
+use Rattle.grammar.specs.Reader.{read, accepted, refused}
+use Rattle.grammar.specs.Reading.{refusal, answer, readText}
 use Rattle.grammar.specs.Check.{same, differs, firstDiffer, checked}
 
 -- 1 is before 2

@@ -1,12 +1,13 @@
 -- The numbers of a text from left to right with their places, and refusal 17: "the leftmost number above n or met before (its first byte), else a goal
 -- missing (the text's length)".
-use mathlib.Core.Bool.{Bool, true, false, _||_, cond}
-use mathlib.Core.List.{List, [], _∷_, _++_}
+use mathlib.Core.Bool.{Bool, false, _||_, cond}
+use mathlib.Core.List.{List, [], _∷_}
 use mathlib.Core.Option.{Option, none, some}
 use Prim.Native.Nat.{ℕ, zero, suc, _+_, _*_}
-use lib.Dec.{eqb, leb, ltb}
+use lib.Dec.{eqb, ltb}
 use lib.ListN.{length}
-use Rattle.expression.specs.Expr.{Expr, goal, join, Members, one, more, times}
+use Rattle.expression.specs.Expr.{Expr, times}
+use Rattle.expression.specs.Search.{orElse}
 use Rattle.grammar.specs.Reader.{Sign, digit, joiner, opener, closer, other, sign}
 
 -- A number and the place of its first byte.
@@ -56,25 +57,6 @@ abbrev pub missing : ℕ → Expr → Bool
 missing zero e = false
 missing (suc n) e = eqb (times e (suc n)) 0 || missing n e
 
-abbrev pub orElse : Option ℕ → Option ℕ → Option ℕ
-orElse (some p) r = some p
-orElse none r = r
-
 -- The place of refusal 17 for the text t of e.
 abbrev pub misuse : ℕ → List ℕ → Expr → Option ℕ
 misuse n t e = orElse (fault n [] (numbers t)) (cond (missing n e) (some (length t)) none)
-
--- The numbers of an expression from left to right.
-abbrev mutual
-  pub goals : Expr → List ℕ
-  goals (goal g) = g ∷ []
-  goals (join k e ms) = goals e ++ goalsM ms
-
-  pub goalsM : Members → List ℕ
-  goalsM (one e) = goals e
-  goalsM (more e ms) = goals e ++ goalsM ms
-
--- How often i stands in a list.
-abbrev pub count : List ℕ → ℕ → ℕ
-count [] i = 0
-count (v ∷ l) i = cond (eqb i v) 1 0 + count l i

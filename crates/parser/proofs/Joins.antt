@@ -1,22 +1,22 @@
 -- The loop over the members of a sequence or a group: one law for each way through it.
-use mathlib.Core.Path.{_≡_, refl, sym, ap, _∙_, subst}
+use mathlib.Core.Path.{_≡_, refl, _∙_, subst}
 use mathlib.Core.Bool.{Bool, true, false, cond}
 use mathlib.Core.List.{List}
 use mathlib.Core.Option.{none, some}
-use Prim.Native.Nat.{ℕ, suc, _+_, _<_, _≤_}
+use Prim.Native.Nat.{ℕ, _+_, _<_, _≤_}
 use native.Mathlib.Omega.{arith}
 use lib.ListN.{length, getD, drop}
 use Rattle.sets.specs.Sets.{union}
 use Rattle.expression.specs.Expr.{Expr, one}
 use Rattle.expression.specs.Text.{mark}
-use Rattle.grammar.specs.Reader.{Sign, digit, joiner, opener, closer, other, sign, Front, close, push, Level, due, done, State, goes, ends, run}
+use Rattle.grammar.specs.Reader.{Sign, digit, joiner, opener, closer, other, sign, Front, close, push, Level, due, done, goes, ends, run}
 use Rattle.grammar.proofs.Signs.{Is, sign-is}
 use Rattle.grammar.proofs.Sound.{next}
 use Rattle.rows.specs.Rows.{Words}
 use Rattle.parser.specs.declared.Node.{Node}
 use Rattle.parser.specs.declared.Part.{Part}
 use Rattle.parser.specs.declared.Part.the-variants.{Read, Bad}
-use Rattle.parser.specs.Reads.{Told, Comes, within, Answer, NoAnd, NoMark}
+use Rattle.parser.specs.Reads.{Comes, within, Answer, NoAnd, NoMark}
 use Rattle.parser.proofs.Tells.{joinKind, FrontTold, Links, told-alone, told-push, told-close}
 use Rattle.parser.proofs.Runs.{takes, alike}
 

@@ -1,14 +1,14 @@
 -- A number, a sequence in parentheses, and the whole text: one law for each way out.
-use mathlib.Core.Path.{_≡_, refl, sym, ap, _∙_, subst}
-use mathlib.Core.Bool.{Bool, true, false}
+use mathlib.Core.Path.{_≡_, refl, ap, _∙_, subst}
+use mathlib.Core.Bool.{true, false}
 use mathlib.Core.List.{List, [], _∷_}
 use mathlib.Core.Option.{none, some}
-use mathlib.Core.Logic.{_⊎_, inl, inr, ⊎-elim}
+use mathlib.Core.Logic.{_⊎_, ⊎-elim}
 use Prim.Native.Nat.{ℕ, zero, suc, _+_, _*_, _<_, _≤_}
 use native.Mathlib.Omega.{arith}
 use lib.ListN.{length, getD, drop}
 use Rattle.expression.specs.Expr.{Expr, goal}
-use Rattle.grammar.specs.Reader.{Sign, digit, joiner, opener, closer, other, sign, Front, Level, due, begun, done, state, goes, starts, opens, grows, onward, run, read}
+use Rattle.grammar.specs.Reader.{Sign, digit, joiner, opener, closer, other, sign, Front, Level, due, begun, done, state, goes, starts, opens, grows, onward, run}
 use Rattle.grammar.proofs.Signs.{Is, sign-is, sign-digit}
 use Rattle.grammar.proofs.Sound.{next}
 use Rattle.parser.specs.declared.Node.{Node}

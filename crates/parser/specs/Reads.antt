@@ -1,7 +1,7 @@
 -- What the readers promise: the way of the grammar's reader over the text, and the numbers and the order of what is read.
 use mathlib.Core.Path.{_≡_}
 use mathlib.Core.Bool.{Bool, true, false, _||_, cond}
-use mathlib.Core.List.{List, []}
+use mathlib.Core.List.{List}
 use mathlib.Core.Option.{none}
 use Prim.Native.Nat.{ℕ, suc, _+_, _-_, _<_, _≤_}
 use lib.Dec.{leb}
@@ -9,11 +9,10 @@ use lib.ListN.{length, getD, drop}
 use Rattle.sets.specs.Sets.{has, single}
 use Rattle.graph.specs.Graph.{ahead}
 use Rattle.expression.specs.Expr.{Expr, goal, join, stands, before}
-use Rattle.grammar.specs.Reader.{Front, Level, Phase, due, done, State, state, Reading, accepted, refused, run, read}
+use Rattle.grammar.specs.Reader.{Front, Level, Phase, due, done, State, state, accepted, refused, run, read}
 use Rattle.rows.specs.Rows.{Words}
 use Rattle.parser.specs.declared.Kind.{Kind}
 use Rattle.parser.specs.declared.Kind.the-variants.{Goal, Group as Groups, Sequence as Sequences}
-use Rattle.parser.specs.declared.Node.{Node}
 use Rattle.parser.specs.declared.Part.{Part}
 use Rattle.parser.specs.declared.Part.the-variants.{Read, Bad}
 

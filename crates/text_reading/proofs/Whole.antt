@@ -4,10 +4,10 @@ use mathlib.Core.Bool.{Bool, true, false, _||_, cond, true≢false}
 use mathlib.Core.List.{List, []}
 use mathlib.Core.Option.{Option, none, some}
 use mathlib.Core.Logic.{⊎-elim, dite}
-use Prim.Native.Nat.{ℕ, zero, suc, _+_, _^_, _<_, _≤_}
+use Prim.Native.Nat.{ℕ, zero, suc, _^_, _<_, _≤_}
 use native.Mathlib.Omega.{arith}
 use native.Mathlib.Decide.{decLt}
-use lib.Dec.{eqb, leb, ltb}
+use lib.Dec.{eqb}
 use lib.ListN.{length, getD, replicate, getD-replicate}
 use borrow.Author.Tests.{ne-eqb, eqb-false, leb-true, le-leb, lt-leb, lt-ltb, ltb-true}
 use Rattle.logic.proofs.Bools.{is-false}
@@ -22,14 +22,14 @@ use Rattle.expression.proofs.Spec.{stands-in, before-in}
 use Rattle.expression.proofs.Theorems.{uses-in}
 use Rattle.grammar.specs.Reader.{read}
 use Rattle.grammar.specs.Numbers.{numbers, fault, missing, misuse}
-use Rattle.grammar.specs.Reading.{Ruling, refusal, answer, numbered, decided, readText}
+use Rattle.grammar.specs.Reading.{refusal, numbered, decided, readText}
 use Rattle.grammar.proofs.Decides.{read-accepts}
 use Rattle.grammar.proofs.Goals.{misuse-none}
 use Rattle.rows.specs.Rows.{Words}
 use Rattle.parser.specs.declared.Node.{Node}
 use Rattle.parser.specs.declared.Part.{Part}
 use Rattle.parser.specs.declared.Part.the-variants.{Read as Done, Bad}
-use Rattle.parser.specs.Reads.{Told, Parsed}
+use Rattle.parser.specs.Reads.{Parsed}
 use Rattle.text_reading.specs.declared.Outcome.the-variants.{Read}
 use Rattle.text_reading.specs.declared.TextAnswer.{TextAnswer}
 use Rattle.text_reading.specs.declared.Spot.{Spot}

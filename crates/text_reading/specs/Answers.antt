@@ -11,7 +11,6 @@ use Rattle.grammar.specs.Reader.{sign}
 use Rattle.grammar.specs.Numbers.{Found, found, grown, numbers}
 use Rattle.grammar.specs.Numbers
 use Rattle.grammar.specs.Reading.{Ruling, refusal, answer}
-use Rattle.text_reading.specs.declared.Outcome.{Outcome}
 use Rattle.text_reading.specs.declared.Outcome.the-variants.{Read, Refused}
 use Rattle.text_reading.specs.declared.TextAnswer.{TextAnswer}
 use Rattle.text_reading.specs.declared.Spot.{Spot}
