@@ -4,7 +4,7 @@ use Prim.Native.Nat.{ℕ}
 use Rattle.logic.specs.Quantifiers.{someBelow}
 use Rattle.sets.specs.Sets.{has}
 use Rattle.text.specs.Text.{decimal, joinFrom, some, only}
-use Rattle.stages.specs.Mel.{Clause, goal, someGoal, thoseFrom, goalsFrom, occurs, firstIn, cuts, largest, start, shared, across, met, groundCheck, indepCheck, indepsFrom, checks, stagesTo, stages, checkText, checksFrom, arrowIf, goalsText, stageText, stagesText, melText}
+use Rattle.stages.specs.Mel.{Clause, goal, someGoal, thoseFrom, goalsFrom, occurs, firstIn, boundary, largest, start, shared, across, met, groundCheck, indepCheck, indepsFrom, checks, stagesTo, stages, checkText, checksFrom, arrowIf, goalsText, stageText, stagesText, melText}
 use Rattle.stages.specs.Masks.{given}
 
 pub record Draft : Type 0 where
@@ -21,5 +21,5 @@ drafts =
     []
 
 pub drafts-hold : map (λ d. melText (d .clause)) drafts ≡ map (λ d. d .says) drafts
-unfolding given goal has someGoal someBelow occurs firstIn cuts largest start thoseFrom goalsFrom shared across met groundCheck indepCheck indepsFrom checks stagesTo stages checkText checksFrom arrowIf goalsText stageText stagesText melText decimal joinFrom some only
+unfolding given goal has someGoal someBelow occurs firstIn boundary largest start thoseFrom goalsFrom shared across met groundCheck indepCheck indepsFrom checks stagesTo stages checkText checksFrom arrowIf goalsText stageText stagesText melText decimal joinFrom some only
 drafts-hold = refl

@@ -72,13 +72,13 @@ module _ (head : ℕ) (sets : List ℕ) where
 
 module _ (w head : ℕ) (sets : List ℕ) where
   -- Step 1. "some variable outside the head first occurs in goal p and occurs again in a goal p+1 to q"
-  unfoldable pub cuts : ℕ → ℕ → Bool
-  cuts q p = someBelow w (λ x. firstIn head sets p x && occurs sets p q x)
+  unfoldable pub boundary : ℕ → ℕ → Bool
+  boundary q p = someBelow w (λ x. firstIn head sets p x && occurs sets p q x)
 
   -- "find the largest p such that"; "p is 0 if there is none": the largest up to m
   unfoldable pub largest : ℕ → ℕ → ℕ
   largest q zero = 0
-  largest q (suc m) = cond (cuts q (suc m)) (suc m) (largest q m)
+  largest q (suc m) = cond (boundary q (suc m)) (suc m) (largest q m)
 
   -- the p of "goals 1 to q"
   unfoldable pub start : ℕ → ℕ
