@@ -101,7 +101,7 @@ module _ (c : Clause) where
   groundCheck p q x = shared (c .sets) p q x && not (has (c .ground (p + 1)) x)
 
   -- Steps 2 and 3. "Its independence checks are the unordered pairs of variables, from two different goals of the stage, neither in the first list";
-  -- drop "pairs that are known independent or that hold a variable neither in the head nor in goals 1 to p"
+  -- drop "pairs that are known independent or that hold a variable neither in the head nor in goals 1 to p" (the last by 003's note on its example)
   unfoldable pub indepCheck : ℕ → ℕ → ℕ → ℕ → Bool
   indepCheck p q x y =
       (ltb x y && across (c .sets) p q x y && not (shared (c .sets) p q x || shared (c .sets) p q y))
