@@ -94,8 +94,8 @@ pub fn put_pairs(
     while rest != 0 {
         let x = sets::first(rest);
         let row = stages::goal(rows, x as usize + 1);
-        let mates = stages::partners(sets, p, q, k, row, x);
-        let e = put_row(out, o, x as u8, mates, comma);
+        let others = stages::partners(sets, p, q, k, row, x);
+        let e = put_row(out, o, x as u8, others, comma);
         comma = comma | (o < e);
         o = e;
         rest = sets::without(rest, sets::single(x));

@@ -16,7 +16,7 @@ use Rattle.logic.proofs.Bools.{iff, and-l, and-r, and-i, or-elim, or-l, or-r, i
 use Rattle.sets.specs.Sets.{has, union, meet}
 use Rattle.sets.proofs.Laws.{has-union, has-meet, has-empty, none-empty}
 use Rattle.stages.specs.Mel.{goal, someGoal, occurs, shared}
-use Rattle.stages.specs.Masks.{once, twice, upTo, homeFrom, home}
+use Rattle.stages.specs.Masks.{once, twice, upTo, goalWithFrom, goalWith}
 use Rattle.stages.specs.Plain.{Twice}
 use Rattle.stages.proofs.Words.{Some, occurs-out, occurs-in, shared-out, shared-in}
 
@@ -133,20 +133,20 @@ module _ (sets : List ℕ) where
 -- ---- the goal that holds a variable
 
 module _ (sets : List ℕ) where
-  from-out : (k p x y : ℕ) → has (homeFrom sets k p x) y ≡ true → Some p (p + k) (λ s. has (goal sets s) x && has (goal sets s) y)
-  unfolding homeFrom
+  from-out : (k p x y : ℕ) → has (goalWithFrom sets k p x) y ≡ true → Some p (p + k) (λ s. has (goal sets s) x && has (goal sets s) y)
+  unfolding goalWithFrom
   from-out zero p x y h = absurd (false≢true (sym (has-empty y) ∙ h))
   from-out (suc k) p x y h = go (has (goal sets (suc p)) x) refl (from-out k (suc p) x y) h
     where
       go : (b : Bool) → has (goal sets (suc p)) x ≡ b
-          → (has (homeFrom sets k (suc p) x) y ≡ true → Some (suc p) (suc p + k) (λ s. has (goal sets s) x && has (goal sets s) y))
-          → has (cond b (goal sets (suc p)) (homeFrom sets k (suc p) x)) y ≡ true → Some p (p + suc k) (λ s. has (goal sets s) x && has (goal sets s) y)
+          → (has (goalWithFrom sets k (suc p) x) y ≡ true → Some (suc p) (suc p + k) (λ s. has (goal sets s) x && has (goal sets s) y))
+          → has (cond b (goal sets (suc p)) (goalWithFrom sets k (suc p) x)) y ≡ true → Some p (p + suc k) (λ s. has (goal sets s) x && has (goal sets s) y)
       go true e ih h = record { g = suc p; above = lt-suc-self p; upto = omega arith; so = and-i (has (goal sets (suc p)) x) (has (goal sets (suc p)) y) e h }
       go false e ih h = let r = ih h in record { g = r .g; above = omega (arith, r .above); upto = omega (arith, r .upto); so = r .so }
 
   from-in : (k p x y s : ℕ) → p < s → s ≤ p + k → has (goal sets s) x ≡ true → has (goal sets s) y ≡ true
-      → ((t : ℕ) → p < t → t < s → has (goal sets t) x ≡ false) → has (homeFrom sets k p x) y ≡ true
-  unfolding homeFrom
+      → ((t : ℕ) → p < t → t < s → has (goal sets t) x ≡ false) → has (goalWithFrom sets k p x) y ≡ true
+  unfolding goalWithFrom
   from-in zero p x y s a u ex ey none = absurd (omega arith)
   from-in (suc k) p x y s a u ex ey none =
       ⊎-elim
@@ -155,27 +155,27 @@ module _ (sets : List ℕ) where
       (eq-or-lt-of-le a)
 
   -- y stands in a goal of p+1 to q that holds x; and if it does, and x is in no two, it stands in the first that does
-  pub home-out : (p q x y : ℕ) → has (home sets p q x) y ≡ true → Some p q (λ s. has (goal sets s) x && has (goal sets s) y)
-  unfolding home
-  home-out p q x y h =
+  pub goal-with-out : (p q x y : ℕ) → has (goalWith sets p q x) y ≡ true → Some p q (λ s. has (goal sets s) x && has (goal sets s) y)
+  unfolding goalWith
+  goal-with-out p q x y h =
       let r = from-out (q - p) p x y h in
       record { g = r .g; above = r .above; upto = omega (arith, r .above, r .upto); so = r .so }
 
-  pub home-in : (p q x y s : ℕ) → p < s → s ≤ q → has (goal sets s) x ≡ true → has (goal sets s) y ≡ true → (Twice sets p q x → ⊥) → has (home sets p q x) y ≡ true
-  unfolding home
-  home-in p q x y s a u ex ey one =
+  pub goal-with-in : (p q x y s : ℕ) → p < s → s ≤ q → has (goal sets s) x ≡ true → has (goal sets s) y ≡ true → (Twice sets p q x → ⊥) → has (goalWith sets p q x) y ≡ true
+  unfolding goalWith
+  goal-with-in p q x y s a u ex ey one =
       from-in (q - p) p x y s a (omega arith) ex ey (λ t b l.
       is-false (has (goal sets t) x) (λ e. one (record { s = t; t = s; above = b; order = l; upto = u; in-s = e; in-t = ex })))
 
   -- the steps of the loop
-  pub home-here : (p q x : ℕ) → p < q → has (goal sets (p + 1)) x ≡ true → goal sets (p + 1) ≡ home sets p q x
-  unfolding home homeFrom
-  home-here p q x l e = let n : q - p ≡ suc (q - (p + 1)) = omega arith in rw (n, sym (add-one p), e)
+  pub goal-with-here : (p q x : ℕ) → p < q → has (goal sets (p + 1)) x ≡ true → goal sets (p + 1) ≡ goalWith sets p q x
+  unfolding goalWith goalWithFrom
+  goal-with-here p q x l e = let n : q - p ≡ suc (q - (p + 1)) = omega arith in rw (n, sym (add-one p), e)
 
-  pub home-on : (p q x : ℕ) → p < q → has (goal sets (p + 1)) x ≡ false → home sets p q x ≡ home sets (p + 1) q x
-  unfolding home homeFrom
-  home-on p q x l e = let n : q - p ≡ suc (q - (p + 1)) = omega arith in rw (n, sym (add-one p), e)
+  pub goal-with-on : (p q x : ℕ) → p < q → has (goal sets (p + 1)) x ≡ false → goalWith sets p q x ≡ goalWith sets (p + 1) q x
+  unfolding goalWith goalWithFrom
+  goal-with-on p q x l e = let n : q - p ≡ suc (q - (p + 1)) = omega arith in rw (n, sym (add-one p), e)
 
-  pub home-none : (p q x : ℕ) → q ≤ p → 0 ≡ home sets p q x
-  unfolding home homeFrom
-  home-none p q x h = let n : q - p ≡ 0 = omega arith in rw n
+  pub goal-with-none : (p q x : ℕ) → q ≤ p → 0 ≡ goalWith sets p q x
+  unfolding goalWith goalWithFrom
+  goal-with-none p q x h = let n : q - p ≡ 0 = omega arith in rw n

@@ -11,10 +11,10 @@ use Rattle.logic.proofs.Bools.{iff, and-l, and-r, and-i, not-true, not-i, not-o
 use Rattle.sets.specs.Sets.{has, union, meet, without, below, membersFrom, members}
 use Rattle.sets.proofs.Laws.{has-union, has-meet, has-without, has-below}
 use Rattle.stages.specs.Mel.{Clause, goal, thoseFrom, occurs, shared, met, groundCheck, indepCheck}
-use Rattle.stages.specs.Masks.{once, twice, home, candidates, partners}
+use Rattle.stages.specs.Masks.{once, twice, goalWith, candidates, partners}
 use Rattle.stages.specs.Plain.{Twice}
 use Rattle.stages.proofs.Words.{Some, occurs-out, occurs-in, shared-out, shared-in, indep-out, indep-in, met-out, met-in}
-use Rattle.stages.proofs.Masks.{has-once, has-twice, home-out, home-in}
+use Rattle.stages.proofs.Masks.{has-once, has-twice, goal-with-out, goal-with-in}
 
 pub those-members : (k x m : ℕ) (f : ℕ → Bool) → ((i : ℕ) → f i ≡ has m i) → thoseFrom k x f ≡ membersFrom k x m
 unfolding thoseFrom membersFrom
@@ -65,14 +65,14 @@ module _ (c : Clause) (p q : ℕ) where
       (has-twice (c .sets) p q x))
 
   -- x may stand in a check
-  record May (x : ℕ) : Type 0 where
+  record Candidate (x : ℕ) : Type 0 where
     place : Some p q (λ g. has (goal (c .sets) g) x)
     x-met : met (c .head) (c .sets) p x ≡ true
     x-once : Twice (c .sets) p q x → ⊥
     free : has grd x ≡ false
 
-  may-out : (x : ℕ) → has cand x ≡ true → May x
-  may-out x h =
+  candidate-out : (x : ℕ) → has cand x ≡ true → Candidate x
+  candidate-out x h =
       let O = occurs (c .sets) p q x in
       let M = met (c .head) (c .sets) p x in
       let S = shared (c .sets) p q x in
@@ -86,8 +86,8 @@ module _ (c : Clause) (p q : ℕ) where
         free = not-true (has grd x) (and-r (O && M && not S) (not (has grd x)) e);
       }
 
-  may-in : (x s : ℕ) → p < s → s ≤ q → has (goal (c .sets) s) x ≡ true → met (c .head) (c .sets) p x ≡ true → (Twice (c .sets) p q x → ⊥) → has grd x ≡ false → has cand x ≡ true
-  may-in x s a u e m o f =
+  candidate-in : (x s : ℕ) → p < s → s ≤ q → has (goal (c .sets) s) x ≡ true → met (c .head) (c .sets) p x ≡ true → (Twice (c .sets) p q x → ⊥) → has grd x ≡ false → has cand x ≡ true
+  candidate-in x s a u e m o f =
       has-cand x
       ∙ and-i (occurs (c .sets) p q x && met (c .head) (c .sets) p x && not (shared (c .sets) p q x)) (not (has grd x))
       (and-i (occurs (c .sets) p q x && met (c .head) (c .sets) p x) (not (shared (c .sets) p q x))
@@ -96,48 +96,48 @@ module _ (c : Clause) (p q : ℕ) where
       (ap not f)
 
   module _ (x row : ℕ) (kn : (y : ℕ) → c .known (p + 1) x y ≡ has row y || has (c .ground (p + 1)) x || has (c .ground (p + 1)) y) where
-    abbrev mates : ℕ
-    mates = partners (c .sets) p q cand row x
+    abbrev others : ℕ
+    others = partners (c .sets) p q cand row x
 
-    has-mates : (y : ℕ) → has mates y ≡ has cand y && not (has row y) && not (has (home (c .sets) p q x) y) && not (ltb y (x + 1))
+    has-others : (y : ℕ) → has others y ≡ has cand y && not (has row y) && not (has (goalWith (c .sets) p q x) y) && not (ltb y (x + 1))
     unfolding partners
-    has-mates y =
-        has-without (without (without cand row) (home (c .sets) p q x)) (below (x + 1)) y
+    has-others y =
+        has-without (without (without cand row) (goalWith (c .sets) p q x)) (below (x + 1)) y
         ∙ ap₂ (λ (s t : Bool). s && not t)
-        (has-without (without cand row) (home (c .sets) p q x) y ∙ ap (λ (t : Bool). t && not (has (home (c .sets) p q x) y)) (has-without cand row y))
+        (has-without (without cand row) (goalWith (c .sets) p q x) y ∙ ap (λ (t : Bool). t && not (has (goalWith (c .sets) p q x) y)) (has-without cand row y))
         (has-below (x + 1) y)
 
-    there : (y : ℕ) → indepCheck c p q x y ≡ true → has cand x && has mates y ≡ true
+    there : (y : ℕ) → indepCheck c p q x y ≡ true → has cand x && has others y ≡ true
     there y h =
         let w = indep-out c p q x y h in
         let a = w .across in
         let u = or3 (has row y) (has grd x) (has grd y) (sym (kn y) ∙ w .unknown) in
-        let kx : has cand x ≡ true = may-in x (a .s) (a .above-s) (a .upto-s) (a .in-s) (met-in (c .head) (c .sets) p x (w .x-met)) (w .x-once) (u .1 .0) in
-        let ky : has cand y ≡ true = may-in y (a .t) (a .above-t) (a .upto-t) (a .in-t) (met-in (c .head) (c .sets) p y (w .y-met)) (w .y-once) (u .1 .1) in
-        let H = has (home (c .sets) p q x) y in
+        let kx : has cand x ≡ true = candidate-in x (a .s) (a .above-s) (a .upto-s) (a .in-s) (met-in (c .head) (c .sets) p x (w .x-met)) (w .x-once) (u .1 .0) in
+        let ky : has cand y ≡ true = candidate-in y (a .t) (a .above-t) (a .upto-t) (a .in-t) (met-in (c .head) (c .sets) p y (w .y-met)) (w .y-once) (u .1 .1) in
+        let H = has (goalWith (c .sets) p q x) y in
         let nh : not H ≡ true =
         not-i H (λ e.
-        let g = home-out (c .sets) p q x y e in
+        let g = goal-with-out (c .sets) p q x y e in
         let gx = and-l (has (goal (c .sets) (g .g)) x) (has (goal (c .sets) (g .g)) y) (g .so) in
         let gy = and-r (has (goal (c .sets) (g .g)) x) (has (goal (c .sets) (g .g)) y) (g .so) in
         a .differ
         (one-goal (c .sets) p q x (a .s) (g .g) (w .x-once) (a .above-s) (a .upto-s) (g .above) (g .upto) (a .in-s) gx
         ∙ one-goal (c .sets) p q y (g .g) (a .t) (w .y-once) (g .above) (g .upto) (a .above-t) (a .upto-t) gy (a .in-t)))
         in
-        and-i (has cand x) (has mates y) kx
-        (has-mates y
+        and-i (has cand x) (has others y) kx
+        (has-others y
         ∙ and-i (has cand y && not (has row y) && not H) (not (ltb y (x + 1)))
         (and-i (has cand y && not (has row y)) (not H) (and-i (has cand y) (not (has row y)) ky (ap not (u .0))) nh)
         (ap not (le-ltb y (x + 1) (omega (arith, w .lower)))))
 
-    back : (y : ℕ) → has cand x && has mates y ≡ true → indepCheck c p q x y ≡ true
+    back : (y : ℕ) → has cand x && has others y ≡ true → indepCheck c p q x y ≡ true
     back y h =
-        let mx = may-out x (and-l (has cand x) (has mates y) h) in
-        let H = has (home (c .sets) p q x) y in
-        let e : has cand y && not (has row y) && not H && not (ltb y (x + 1)) ≡ true = sym (has-mates y) ∙ and-r (has cand x) (has mates y) h in
+        let mx = candidate-out x (and-l (has cand x) (has others y) h) in
+        let H = has (goalWith (c .sets) p q x) y in
+        let e : has cand y && not (has row y) && not H && not (ltb y (x + 1)) ≡ true = sym (has-others y) ∙ and-r (has cand x) (has others y) h in
         let e1 = and-l (has cand y && not (has row y) && not H) (not (ltb y (x + 1))) e in
         let e2 = and-l (has cand y && not (has row y)) (not H) e1 in
-        let my = may-out y (and-l (has cand y) (not (has row y)) e2) in
+        let my = candidate-out y (and-l (has cand y) (not (has row y)) e2) in
         indep-in c p q x y
         (record {
           lower = omega (arith, ltb-false y (x + 1) (not-true (ltb y (x + 1)) (and-r (has cand y && not (has row y) && not H) (not (ltb y (x + 1))) e)));
@@ -152,7 +152,7 @@ module _ (c : Clause) (p q : ℕ) where
                 in-s = mx .place .so;
                 in-t = my .place .so;
                 differ = λ d. not-out H (and-r (has cand y && not (has row y)) (not H) e1)
-                    (home-in (c .sets) p q x y (mx .place .g) (mx .place .above) (mx .place .upto) (mx .place .so) (ap (λ (g : ℕ). has (goal (c .sets) g) y) d ∙ my .place .so) (mx .x-once));
+                    (goal-with-in (c .sets) p q x y (mx .place .g) (mx .place .above) (mx .place .upto) (mx .place .so) (ap (λ (g : ℕ). has (goal (c .sets) g) y) d ∙ my .place .so) (mx .x-once));
               };
           x-once = mx .x-once;
           y-once = my .x-once;
@@ -161,5 +161,5 @@ module _ (c : Clause) (p q : ℕ) where
           unknown = kn y ∙ ap₂ _||_ (ap₂ _||_ (not-true (has row y) (and-r (has cand y) (not (has row y)) e2)) (mx .free)) (my .free);
         })
 
-    pub indep-masks : (y : ℕ) → indepCheck c p q x y ≡ has cand x && has mates y
+    pub indep-masks : (y : ℕ) → indepCheck c p q x y ≡ has cand x && has others y
     indep-masks y = iff _ _ (there y) (back y)

@@ -11,9 +11,9 @@ use borrow.Author.Tests.{eq-eqb, ne-eqb, eqb-false}
 use Rattle.logic.proofs.Bools.{and-l, and-r, and-i, not-i, not-out, not-true, is-false}
 use Rattle.logic.proofs.Quantifiers.{below-out, below-in}
 use Rattle.sets.specs.Sets.{has}
-use Rattle.stages.specs.Mel.{Stage, goal, goalsFrom, occurs, firstIn, cuts, largest, start, stagesTo, stages}
+use Rattle.stages.specs.Mel.{Stage, goal, goalsFrom, occurs, firstIn, boundary, largest, start, stagesTo, stages}
 use native.Mathlib.Decide.{decLt}
-use Rattle.stages.specs.Plain.{All, goalsOf, Cut, Sound}
+use Rattle.stages.specs.Plain.{All, goalsOf, Boundary, Sound}
 use Rattle.stages.proofs.Words.{occurs-out, occurs-in}
 
 pub all-append : {A : Type 0} (P : A → Type 0) (a b : List A) → All P a → All P b → All P (a ++ b)
@@ -36,10 +36,10 @@ from-two (suc j) k p =
 
 module _ (w head : ℕ) (sets : List ℕ) where
   -- no variable occurs again after the last goal
-  cuts-last : (q : ℕ) → cuts w head sets q q ≡ false
-  unfolding cuts
-  cuts-last q =
-      is-false (cuts w head sets q q) (λ e.
+  boundary-last : (q : ℕ) → boundary w head sets q q ≡ false
+  unfolding boundary
+  boundary-last q =
+      is-false (boundary w head sets q q) (λ e.
       let r = below-out w (λ x. firstIn head sets q x && occurs sets q q x) e in
       let s = occurs-out sets q q (r .x) (and-r (firstIn head sets q (r .x)) (occurs sets q q (r .x)) (r .so)) in
       absurd (omega (arith, s .above, s .upto)))
@@ -47,7 +47,7 @@ module _ (w head : ℕ) (sets : List ℕ) where
   largest-le : (q m : ℕ) → largest w head sets q m ≤ m
   unfolding largest
   largest-le q zero = zero-le
-  largest-le q (suc m) = go (cuts w head sets q (suc m)) (largest-le q m)
+  largest-le q (suc m) = go (boundary w head sets q (suc m)) (largest-le q m)
     where
       go : (b : Bool) → largest w head sets q m ≤ m → cond b (suc m) (largest w head sets q m) ≤ suc m
       go true h = le-refl (suc m)
@@ -57,35 +57,35 @@ module _ (w head : ℕ) (sets : List ℕ) where
   pub start-falls : (q : ℕ) → 0 < q → start w head sets q < q
   unfolding start largest
   start-falls zero h = absurd (omega arith)
-  start-falls (suc q) h = rw (cuts-last (suc q)) (suc-le-suc (largest-le (suc q) q))
+  start-falls (suc q) h = rw (boundary-last (suc q)) (suc-le-suc (largest-le (suc q) q))
 
-  -- p is 0 or a goal that cuts
-  largest-cuts : (q m : ℕ) → 0 < largest w head sets q m → cuts w head sets q (largest w head sets q m) ≡ true
+  -- p is 0 or a boundary
+  largest-boundary : (q m : ℕ) → 0 < largest w head sets q m → boundary w head sets q (largest w head sets q m) ≡ true
   unfolding largest
-  largest-cuts q zero h = absurd (omega arith)
-  largest-cuts q (suc m) h = go (cuts w head sets q (suc m)) refl (largest-cuts q m) h
+  largest-boundary q zero h = absurd (omega arith)
+  largest-boundary q (suc m) h = go (boundary w head sets q (suc m)) refl (largest-boundary q m) h
     where
-      go : (b : Bool) → cuts w head sets q (suc m) ≡ b → (0 < largest w head sets q m → cuts w head sets q (largest w head sets q m) ≡ true)
-          → 0 < cond b (suc m) (largest w head sets q m) → cuts w head sets q (cond b (suc m) (largest w head sets q m)) ≡ true
+      go : (b : Bool) → boundary w head sets q (suc m) ≡ b → (0 < largest w head sets q m → boundary w head sets q (largest w head sets q m) ≡ true)
+          → 0 < cond b (suc m) (largest w head sets q m) → boundary w head sets q (cond b (suc m) (largest w head sets q m)) ≡ true
       go true e ih h = e
       go false e ih h = ih h
 
-  pub start-cuts : (q : ℕ) → 0 < start w head sets q → cuts w head sets q (start w head sets q) ≡ true
+  pub start-boundary : (q : ℕ) → 0 < start w head sets q → boundary w head sets q (start w head sets q) ≡ true
   unfolding start
-  start-cuts q h = largest-cuts q q h
+  start-boundary q h = largest-boundary q q h
 
-  -- and none after it does
-  above-largest : (q m g : ℕ) → largest w head sets q m < g → g ≤ m → cuts w head sets q g ≡ false
+  -- and no goal after it is one
+  above-largest : (q m g : ℕ) → largest w head sets q m < g → g ≤ m → boundary w head sets q g ≡ false
   unfolding largest
   above-largest q zero g l u = absurd (omega arith)
-  above-largest q (suc m) g l u = go (cuts w head sets q (suc m)) refl (λ a b. above-largest q m g a b) l
+  above-largest q (suc m) g l u = go (boundary w head sets q (suc m)) refl (λ a b. above-largest q m g a b) l
     where
-      go : (b : Bool) → cuts w head sets q (suc m) ≡ b → (largest w head sets q m < g → g ≤ m → cuts w head sets q g ≡ false)
-          → cond b (suc m) (largest w head sets q m) < g → cuts w head sets q g ≡ false
+      go : (b : Bool) → boundary w head sets q (suc m) ≡ b → (largest w head sets q m < g → g ≤ m → boundary w head sets q g ≡ false)
+          → cond b (suc m) (largest w head sets q m) < g → boundary w head sets q g ≡ false
       go true e ih l = absurd (omega arith)
-      go false e ih l = ⊎-elim (λ s. ap (cuts w head sets q) s ∙ e) (λ k. ih l (le-of-suc-le-suc k)) (eq-or-lt-of-le u)
+      go false e ih l = ⊎-elim (λ s. ap (boundary w head sets q) s ∙ e) (λ k. ih l (le-of-suc-le-suc k)) (eq-or-lt-of-le u)
 
-  pub above-start : (q g : ℕ) → start w head sets q < g → g ≤ q → cuts w head sets q g ≡ false
+  pub above-start : (q g : ℕ) → start w head sets q < g → g ≤ q → boundary w head sets q g ≡ false
   unfolding start
   above-start q g l u = above-largest q q g l u
 
@@ -146,9 +146,9 @@ module _ (w head : ℕ) (sets : List ℕ) where
       -- ---- the same in plain words
 
 module _ (w head : ℕ) (sets : List ℕ) where
-  pub cuts-out : (q p : ℕ) → 0 < p → cuts w head sets q p ≡ true → Cut w head sets q p
-  unfolding cuts firstIn
-  cuts-out q p z h =
+  pub boundary-out : (q p : ℕ) → 0 < p → boundary w head sets q p ≡ true → Boundary w head sets q p
+  unfolding boundary firstIn
+  boundary-out q p z h =
       let r = below-out w (λ x. firstIn head sets p x && occurs sets p q x) h in
       let x = r .x in
       let H = has (goal sets p) x in
@@ -168,9 +168,9 @@ module _ (w head : ℕ) (sets : List ℕ) where
         there = s .so;
       }
 
-  pub cuts-in : (q p : ℕ) → 0 < p → Cut w head sets q p → cuts w head sets q p ≡ true
-  unfolding cuts firstIn
-  cuts-in q p z k =
+  pub boundary-in : (q p : ℕ) → 0 < p → Boundary w head sets q p → boundary w head sets q p ≡ true
+  unfolding boundary firstIn
+  boundary-in q p z k =
       let x = k .x in
       let H = has (goal sets p) x in
       let O = occurs sets 0 (p - 1) x in
@@ -181,14 +181,14 @@ module _ (w head : ℕ) (sets : List ℕ) where
       (occurs-in sets p q x (k .again) (k .after) (k .upto) (k .there)))
 
   -- "find the largest p such that ..; p is 0 if there is none"
-  pub start-is-cut : (q : ℕ) → 0 < start w head sets q → Cut w head sets q (start w head sets q)
-  start-is-cut q h = cuts-out q (start w head sets q) h (start-cuts w head sets q h)
+  pub start-is-boundary : (q : ℕ) → 0 < start w head sets q → Boundary w head sets q (start w head sets q)
+  start-is-boundary q h = boundary-out q (start w head sets q) h (start-boundary w head sets q h)
 
-  pub start-is-largest : (q p : ℕ) → 0 < p → Cut w head sets q p → p ≤ start w head sets q
+  pub start-is-largest : (q p : ℕ) → 0 < p → Boundary w head sets q p → p ≤ start w head sets q
   start-is-largest q p z k = go (decLt (start w head sets q) p)
     where
       go : Dec (start w head sets q < p) → p ≤ start w head sets q
-      go (yes l) = absurd (true≢false (sym (cuts-in q p z k) ∙ above-start w head sets q p l (omega (arith, k .after, k .upto))))
+      go (yes l) = absurd (true≢false (sym (boundary-in q p z k) ∙ above-start w head sets q p l (omega (arith, k .after, k .upto))))
       go (no n) = omega arith
 
   -- every stage is as the paper says
@@ -200,7 +200,7 @@ module _ (w head : ℕ) (sets : List ℕ) where
         record {
           some = start-falls w head sets q h;
           fresh = λ p a u k. absurd (omega (arith, a, start-is-largest q p (omega (arith, a)) k));
-          longest = λ z. start-is-cut q z;
+          longest = λ z. start-is-boundary q z;
         },
         tt,
       )))

@@ -13,7 +13,7 @@ use Rattle.logic.proofs.Bools.{iff, or-elim, or-l, or-r, is-false}
 use Rattle.logic.proofs.Quantifiers.{below-out, below-in}
 use Rattle.sets.specs.Sets.{has, union, meet, without}
 use Rattle.sets.proofs.Laws.{has-union, has-meet, has-without, has-empty, none-empty, member-below}
-use Rattle.stages.specs.Mel.{goal, occurs, firstIn, cuts, largest, start}
+use Rattle.stages.specs.Mel.{goal, occurs, firstIn, boundary, largest, start}
 use Rattle.stages.specs.Masks.{once}
 use Rattle.stages.proofs.Words.{occurs-out, occurs-in}
 use Rattle.stages.proofs.Masks.{has-once}
@@ -55,11 +55,11 @@ module _ (sets : List ℕ) (q : ℕ) where
       (λ i. or-r (has m x) (has (goal sets p) x) (ap (λ (g : ℕ). has (goal sets g) x) i ∙ s .so))
       (λ i. or-l (has m x) (has (goal sets p) x) (h x ∙ occurs-in sets p q x (s .g) i (s .upto) (s .so))) (eq-or-lt-of-le l))
 
-  -- a goal cuts exactly if the mask of the code has a member
-  pub cuts-mask : (w head p b m r : ℕ) → b ≡ once sets 0 (p - 1) → ((x : ℕ) → has m x ≡ occurs sets p q x) → r < 2 ^ w
-      → r ≡ meet (without (without (goal sets p) head) b) m → not (eqb r 0) ≡ cuts w head sets q p
-  unfolding cuts firstIn
-  cuts-mask w head p b m r eb em h e =
+  -- a goal is a boundary exactly if the mask of the code has a member
+  pub boundary-mask : (w head p b m r : ℕ) → b ≡ once sets 0 (p - 1) → ((x : ℕ) → has m x ≡ occurs sets p q x) → r < 2 ^ w
+      → r ≡ meet (without (without (goal sets p) head) b) m → not (eqb r 0) ≡ boundary w head sets q p
+  unfolding boundary firstIn
+  boundary-mask w head p b m r eb em h e =
       some-mask w r h
       ∙ some-cong w (has r) (λ x. firstIn head sets p x && occurs sets p q x) (λ x.
       ap (λ (k : ℕ). has k x) e ∙ has-meet (without (without (goal sets p) head) b) m x
@@ -68,12 +68,12 @@ module _ (sets : List ℕ) (q : ℕ) where
       ∙ ap₂ (λ (s t : Bool). s && not t) (has-without (goal sets p) head x) (ap (λ (k : ℕ). has k x) eb ∙ has-once sets 0 (p - 1) x))
       (em x))
 
-pub largest-cut : (w head : ℕ) (sets : List ℕ) (q p : ℕ) → 0 < p → cuts w head sets q p ≡ true → largest w head sets q p ≡ p
+pub largest-boundary : (w head : ℕ) (sets : List ℕ) (q p : ℕ) → 0 < p → boundary w head sets q p ≡ true → largest w head sets q p ≡ p
 unfolding largest
-largest-cut w head sets q zero h e = absurd (omega arith)
-largest-cut w head sets q (suc p) h e = rw e
+largest-boundary w head sets q zero h e = absurd (omega arith)
+largest-boundary w head sets q (suc p) h e = rw e
 
-pub largest-on : (w head : ℕ) (sets : List ℕ) (q p : ℕ) → 0 < p → cuts w head sets q p ≡ false → largest w head sets q p ≡ largest w head sets q (p - 1)
+pub largest-on : (w head : ℕ) (sets : List ℕ) (q p : ℕ) → 0 < p → boundary w head sets q p ≡ false → largest w head sets q p ≡ largest w head sets q (p - 1)
 unfolding largest
 largest-on w head sets q zero h e = absurd (omega arith)
 largest-on w head sets q (suc p) h e = let i : suc p - 1 ≡ p = omega arith in rw (e, i)

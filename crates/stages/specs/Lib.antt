@@ -1,4 +1,4 @@
 pub mod Mel
 pub mod Masks
 pub mod Plain
-pub mod Drafts
+pub mod Examples

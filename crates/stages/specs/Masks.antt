@@ -37,12 +37,12 @@ unfoldable pub upTo : List ℕ → List ℕ
 upTo sets = table 33 (length sets + 1) (λ g. once sets 0 g)
 
 -- the set of the first of the goals p+1 to p+k that holds x, empty if none does
-unfoldable pub homeFrom : List ℕ → ℕ → ℕ → ℕ → ℕ
-homeFrom sets zero p x = 0
-homeFrom sets (suc k) p x = let r = homeFrom sets k (suc p) x in cond (has (goal sets (suc p)) x) (goal sets (suc p)) r
+unfoldable pub goalWithFrom : List ℕ → ℕ → ℕ → ℕ → ℕ
+goalWithFrom sets zero p x = 0
+goalWithFrom sets (suc k) p x = let r = goalWithFrom sets k (suc p) x in cond (has (goal sets (suc p)) x) (goal sets (suc p)) r
 
-unfoldable pub home : List ℕ → ℕ → ℕ → ℕ → ℕ
-home sets p q x = homeFrom sets (q - p) p x
+unfoldable pub goalWith : List ℕ → ℕ → ℕ → ℕ → ℕ
+goalWith sets p q x = goalWithFrom sets (q - p) p x
 
 -- the variables that may stand in an independence check of a stage: in one of its goals, met before it, in no two of its goals, not known ground
 unfoldable pub candidates : ℕ → ℕ → ℕ → ℕ → ℕ
@@ -50,4 +50,4 @@ candidates once₁ twice₁ met₁ ground = without (without (meet once₁ met�
 
 -- of the candidates k those that stand in a check with x, x the lower: not known independent of x (x's row), not in x's goal, above x
 unfoldable pub partners : List ℕ → ℕ → ℕ → ℕ → ℕ → ℕ → ℕ
-partners sets p q k row x = without (without (without k row) (home sets p q x)) (below (x + 1))
+partners sets p q k row x = without (without (without k row) (goalWith sets p q x)) (below (x + 1))

@@ -72,13 +72,13 @@ module _ (head : ℕ) (sets : List ℕ) where
 
 module _ (w head : ℕ) (sets : List ℕ) where
   -- Step 1. "some variable outside the head first occurs in goal p and occurs again in a goal p+1 to q"
-  unfoldable pub cuts : ℕ → ℕ → Bool
-  cuts q p = someBelow w (λ x. firstIn head sets p x && occurs sets p q x)
+  unfoldable pub boundary : ℕ → ℕ → Bool
+  boundary q p = someBelow w (λ x. firstIn head sets p x && occurs sets p q x)
 
   -- "find the largest p such that"; "p is 0 if there is none": the largest up to m
   unfoldable pub largest : ℕ → ℕ → ℕ
   largest q zero = 0
-  largest q (suc m) = cond (cuts q (suc m)) (suc m) (largest q m)
+  largest q (suc m) = cond (boundary q (suc m)) (suc m) (largest q m)
 
   -- the p of "goals 1 to q"
   unfoldable pub start : ℕ → ℕ
@@ -101,7 +101,7 @@ module _ (c : Clause) where
   groundCheck p q x = shared (c .sets) p q x && not (has (c .ground (p + 1)) x)
 
   -- Steps 2 and 3. "Its independence checks are the unordered pairs of variables, from two different goals of the stage, neither in the first list";
-  -- drop "pairs that are known independent or that hold a variable neither in the head nor in goals 1 to p"
+  -- drop "pairs that are known independent or that hold a variable neither in the head nor in goals 1 to p" (the last by 003's note on its example)
   unfoldable pub indepCheck : ℕ → ℕ → ℕ → ℕ → Bool
   indepCheck p q x y =
       (ltb x y && across (c .sets) p q x y && not (shared (c .sets) p q x || shared (c .sets) p q y))

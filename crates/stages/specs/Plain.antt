@@ -23,7 +23,7 @@ goalsOf [] = []
 goalsOf (s ∷ l) = goalsFrom (s .last - s .after) (s .after) ++ goalsOf l
 
 -- x, outside the head, first occurs in goal p and occurs again in goal `again`, one of p+1 to q
-pub record Cut (w head : ℕ) (sets : List ℕ) (q p : ℕ) : Type 0 where
+pub record Boundary (w head : ℕ) (sets : List ℕ) (q p : ℕ) : Type 0 where
   pub x : ℕ
   pub under : x < w
   pub outside : has head x ≡ false
@@ -38,8 +38,8 @@ pub record Cut (w head : ℕ) (sets : List ℕ) (q p : ℕ) : Type 0 where
 -- has the first occurrence of such a variable that occurs again in the stage.
 pub record Sound (w head : ℕ) (sets : List ℕ) (s : Stage) : Type 0 where
   pub some : s .after < s .last
-  pub fresh : (p : ℕ) → s .after < p → p ≤ s .last → Cut w head sets (s .last) p → ⊥
-  pub longest : 0 < s .after → Cut w head sets (s .last) (s .after)
+  pub fresh : (p : ℕ) → s .after < p → p ≤ s .last → Boundary w head sets (s .last) p → ⊥
+  pub longest : 0 < s .after → Boundary w head sets (s .last) (s .after)
 
 -- x stands in the goals s and t, both of p+1 to q, s the earlier
 pub record Twice (sets : List ℕ) (p q x : ℕ) : Type 0 where

@@ -81,10 +81,10 @@ pub fn counted(sets: &[u64], p: usize, q: usize) -> Seen
 }
 
 // The set of the first of the goals p+1 to q that holds x, empty if none does.
-pub fn home(sets: &[u64], p: usize, q: usize, x: u32) -> u64
+pub fn goal_with(sets: &[u64], p: usize, q: usize, x: u32) -> u64
     requires { ⌜ (p ≤ q) × (q < 2 ^ 32) ⌝ }
     requires { ⌜ x < 64 ⌝ }
-    ensures { λ r. ⌜ r ≡ M.home (now (sets .entry)) p q x ⌝ }
+    ensures { λ r. ⌜ r ≡ M.goalWith (now (sets .entry)) p q x ⌝ }
 {
     let mut g = p;
     while g < q {
@@ -110,7 +110,7 @@ pub fn partners(sets: &[u64], p: usize, q: usize, k: u64, row: u64, x: u32) -> u
     requires { ⌜ x < 64 ⌝ }
     ensures { λ r. ⌜ r ≡ M.partners (now (sets .entry)) p q k row x ⌝ }
 {
-    let h = home(sets, p, q, x);
+    let h = goal_with(sets, p, q, x);
     let b = sets::below(x + 1);
     sets::without(sets::without(sets::without(k, row), h), b)
 }

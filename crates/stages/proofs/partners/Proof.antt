@@ -4,8 +4,8 @@ use Rattle.stages.proofs.partners.Statement.{statement}
 use Rattle.stages.proofs.partners.Tie as tie
 
 -- src/lib.rt:118:9
-home-requires : tie.Need-home-requires
-home-requires c κs = search needs
+goal-with-requires : tie.Need-goal-with-requires
+goal-with-requires c κs = search needs
 
 -- src/lib.rt:119:25
 add-below : tie.Need-add-below
@@ -30,13 +30,13 @@ without-requires-3 c κs = search needs
 -- src/lib.rt:113:1
 returns : tie.Need-returns
 unfolding M.partners
-returns c = rw (c .without3 .ensures, c .before .without2 .ensures, c .before .before .without .ensures, c .before .before .before .below .ensures, c .before .before .before .before .home .ensures)
+returns c = rw (c .without3 .ensures, c .before .without2 .ensures, c .before .before .without .ensures, c .before .before .before .below .ensures, c .before .before .before .before .goal-with .ensures)
 
 pub partners-spec : {M : Type 1} → statement M
 partners-spec =
     tie.close
     (tie.spec
-    home-requires
+    goal-with-requires
     add-below
     below-requires
     without-requires

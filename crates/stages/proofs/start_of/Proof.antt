@@ -10,7 +10,7 @@ use lib.Dec.{eqb}
 use borrow.Author.Tests.{eq-eqb, ne-eqb}
 use Rattle.sets.specs.Sets.{has}
 use Rattle.stages.proofs.Masks.{before-goal}
-use Rattle.stages.proofs.Starts.{none-after, one-more, cuts-mask, start-whole, start-none, largest-cut, largest-on}
+use Rattle.stages.proofs.Starts.{none-after, one-more, boundary-mask, start-whole, start-none, largest-boundary, largest-on}
 use Rattle.stages.proofs.start_of.Statement.{statement}
 use Rattle.stages.proofs.start_of.Tie as tie
 
@@ -21,17 +21,17 @@ abbrev μ-loop : tie.MeasureT-loop
 μ-loop head sets before q after₀ p₀ after p = p
 
 -- the code's test of a goal is the paper's
-cut : (c : tie.After-meet Inv-loop μ-loop) →
+tested : (c : tie.After-meet Inv-loop μ-loop) →
     let a = c .before .before .before .before .before .before .before .before .before .args in
-    not (eqb (c .meet .result) 0) ≡ W.cuts 64 (a .head) (now (a .sets)) (a .q) (c .before .before .before .before .before .before .loop .p)
-cut c =
+    not (eqb (c .meet .result) 0) ≡ W.boundary 64 (a .head) (now (a .sets)) (a .q) (c .before .before .before .before .before .before .loop .p)
+tested c =
     let a = c .before .before .before .before .before .before .before .before .before .args in
     let l = c .before .before .before .before .before .before .loop in
     let e : now (a .before) ≡ M.upTo (now (a .sets)) = (search) in
     let b : c .before .before .goal2 .result ≡ M.once (now (a .sets)) 0 (l .p - 1) =
     c .before .before .goal2 .ensures ∙ ap (λ (k : List ℕ). W.goal k (l .p)) e ∙ before-goal _ _ (omega arith) (omega arith) (omega arith)
     in
-    cuts-mask _ _ 64 _ _ _ _ _ b (l .inv .1 .0) (c .meet .ok) (rw (c .meet .ensures, c .before .without2 .ensures, c .before .before .before .without .ensures, c .before .before .before .before .goal .ensures))
+    boundary-mask _ _ 64 _ _ _ _ _ b (l .inv .1 .0) (c .meet .ok) (rw (c .meet .ensures, c .before .without2 .ensures, c .before .before .before .without .ensures, c .before .before .before .before .goal .ensures))
 
 -- src/lib.rt:46:5
 loop-holds : tie.Need-loop-holds Inv-loop μ-loop
@@ -63,7 +63,7 @@ meet-requires c κs = omega arith
 
 -- src/lib.rt:52:13
 returns : tie.Need-returns Inv-loop μ-loop
-returns c = sym (c .before .before .before .before .before .before .before .loop .inv .1 .1 ∙ largest-cut _ _ _ _ _ (omega arith) (sym (cut (c .before)) ∙ ap not (ne-eqb _ 0 (c .if1 .taken))))
+returns c = sym (c .before .before .before .before .before .before .before .loop .inv .1 .1 ∙ largest-boundary _ _ _ _ _ (omega arith) (sym (tested (c .before)) ∙ ap not (ne-eqb _ 0 (c .if1 .taken))))
 
 -- src/lib.rt:54:9
 union-requires : tie.Need-union-requires Inv-loop μ-loop
@@ -80,7 +80,7 @@ loop-again c =
       omega arith,
       (
         λ x. rw (c .union .ensures, c .before .before .before .before .before .before .goal .ensures) (one-more _ _ _ _ (omega arith) (omega arith) (l .inv .1 .0) x),
-        l .inv .1 .1 ∙ largest-on _ _ _ _ _ (omega arith) (sym (cut (c .before .before)) ∙ ap not (eq-eqb _ 0 (c .before .if1 .left))),
+        l .inv .1 .1 ∙ largest-on _ _ _ _ _ (omega arith) (sym (tested (c .before .before)) ∙ ap not (eq-eqb _ 0 (c .before .if1 .left))),
       ),
     )
 

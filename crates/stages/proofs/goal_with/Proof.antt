@@ -5,12 +5,12 @@ use denote.Ref.{now}
 use Rattle.stages.specs.Mel as W
 use Rattle.stages.specs.Masks as M
 use Rattle.sets.specs.Sets.{has}
-use Rattle.stages.proofs.Masks.{home-here, home-on, home-none}
-use Rattle.stages.proofs.home.Statement.{statement}
-use Rattle.stages.proofs.home.Tie as tie
+use Rattle.stages.proofs.Masks.{goal-with-here, goal-with-on, goal-with-none}
+use Rattle.stages.proofs.goal_with.Statement.{statement}
+use Rattle.stages.proofs.goal_with.Tie as tie
 
 abbrev Inv-loop : tie.InvT-loop
-Inv-loop sets p q x g₀ g = (p ≤ g) × ((g ≤ q) × (M.home sets p q x ≡ M.home sets g q x))
+Inv-loop sets p q x g₀ g = (p ≤ g) × ((g ≤ q) × (M.goalWith sets p q x ≡ M.goalWith sets g q x))
 
 abbrev μ-loop : tie.MeasureT-loop
 μ-loop sets p q x g₀ g = q - g
@@ -39,7 +39,7 @@ has-requires c κs = omega arith
 
 -- src/lib.rt:90:13
 returns : tie.Need-returns Inv-loop μ-loop
-returns c = rw (c .before .before .goal .ensures) (home-here _ _ _ _ (omega arith) (holds (c .before) ∙ c .if1 .taken) ∙ sym (c .before .before .before .before .loop .inv .1 .1))
+returns c = rw (c .before .before .goal .ensures) (goal-with-here _ _ _ _ (omega arith) (holds (c .before) ∙ c .if1 .taken) ∙ sym (c .before .before .before .before .loop .inv .1 .1))
 
 -- src/lib.rt:92:9
 add-g : tie.Need-add-g Inv-loop μ-loop
@@ -51,14 +51,14 @@ loop-less c = omega arith
 
 -- src/lib.rt:87:5
 loop-again : tie.Need-loop-again Inv-loop μ-loop
-loop-again c = (omega arith, (omega arith, c .before .before .before .before .loop .inv .1 .1 ∙ home-on _ _ _ _ (omega arith) (holds (c .before) ∙ c .if1 .left)))
+loop-again c = (omega arith, (omega arith, c .before .before .before .before .loop .inv .1 .1 ∙ goal-with-on _ _ _ _ (omega arith) (holds (c .before) ∙ c .if1 .left)))
 
 -- src/lib.rt:81:1
 returns-2 : tie.Need-returns-2 Inv-loop μ-loop
-returns-2 c = home-none _ _ _ _ (omega arith) ∙ sym (c .before .loop .inv .1 .1)
+returns-2 c = goal-with-none _ _ _ _ (omega arith) ∙ sym (c .before .loop .inv .1 .1)
 
-pub home-spec : {M : Type 1} → statement M
-home-spec =
+pub goal-with-spec : {M : Type 1} → statement M
+goal-with-spec =
     tie.close
     (tie.spec
     Inv-loop
