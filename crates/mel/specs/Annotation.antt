@@ -4,7 +4,8 @@ use mathlib.Core.List.{List, map}
 use Prim.Native.Nat.{ℕ}
 use lib.ListN.{length}
 use Rattle.judge.specs.Independence.{knownIndependent}
-use Rattle.fields.specs.Fields.{goalCount, headSet, groundSet, goalSet, listed}
+use Rattle.fields.specs.Facts.{groundAt, freeAt}
+use Rattle.fields.specs.Fields.{goalCount, headSet, goalSet, listed}
 use Rattle.reading.specs.Reading.{reading}
 use Rattle.reading.specs.declared.Reading.{Reading}
 use Rattle.reading.specs.declared.Reading.the-variants.{Fine, Refused}
@@ -21,8 +22,8 @@ clauseOf b =
       width = 64;
       head = headSet b;
       sets = map (goalSet b) (goalsFrom (goalCount b) 0);
-      ground = λ g. groundSet b;
-      known = λ g. knownIndependent (groundSet b) 0 (listed b);
+      ground = λ g. groundAt b g;
+      known = λ g. knownIndependent (groundAt b g) (freeAt b g) (listed b);
     }
 
 -- the text of a record's annotation

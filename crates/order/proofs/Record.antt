@@ -1,11 +1,12 @@
 -- The waits by arrays are those of the record, where the arrays hold its goals' variable sets and its listed pairs.
-use mathlib.Core.Path.{_≡_, sym, ap, ap₂, _∙_}
-use mathlib.Core.Bool.{Bool, _&&_}
+use mathlib.Core.Path.{_≡_, refl, sym, ap, ap₂, _∙_}
+use mathlib.Core.Bool.{Bool, true, false, _&&_}
 use mathlib.Core.List.{List}
 use Prim.Native.Nat.{ℕ, suc, compare·suc-suc, _≤_, _<_}
 use native.Mathlib.Omega.{arith}
 use lib.Dec.{ltb, isLe}
 use lib.ListN.{getD}
+use borrow.Author.Tests.{le-leb}
 use Rattle.sets.specs.Sets.{has, setOf}
 use Rattle.sets.proofs.Builder.{setOf-lt, setOf-ext, has-setOf-in}
 use Rattle.arrays.specs.Table.{table}
@@ -18,12 +19,21 @@ use Rattle.clause.specs.Clause.{goalSets, pairRows, clause}
 use Rattle.clause.specs.declared.Clause.{Clause}
 use Rattle.closure.specs.Closing.{Within, closing}
 use Rattle.closure.proofs.Chains.{rows-within, closing-of}
+use Rattle.fields.specs.Facts.{groundAt, freeAt}
 use Rattle.record.specs.Fields.{goalCount, goalSet, listed}
-use Rattle.order.specs.Order.{groundAt, freeAt, waits, before, order}
+use Rattle.order.specs.Order.{earlier, waits, before, order}
 use Rattle.order.specs.Arrays.{waitsAt, waitRow, waitRows, waiting}
 
-ltb-suc : (i j : ℕ) → ltb i j ≡ ltb (suc i) (suc j)
-ltb-suc i j = sym (ap isLe (compare·suc-suc (suc i) j))
+-- goals counted from 0
+earlier-at : (n i j : ℕ) → j < n → ltb i j ≡ earlier n (suc i) (suc j)
+earlier-at n i j h =
+    sym
+    (ap₂ _&&_ (ap₂ _&&_ (le-leb 1 (suc i) (omega arith)) (ap isLe (compare·suc-suc (suc i) j))) (le-leb (suc j) n h)
+    ∙ and-true (ltb i j))
+  where
+    and-true : (p : Bool) → (true && p) && true ≡ p
+    and-true true = refl
+    and-true false = refl
 
 setOf-cong : (w : ℕ) (f g : ℕ → Bool) → ((i : ℕ) → i < w → f i ≡ g i) → setOf w f ≡ setOf w g
 setOf-cong w f g h = setOf-ext w (setOf w f) g (setOf-lt w f) (λ i l. has-setOf-in w f i l ∙ h i l)
@@ -51,7 +61,7 @@ module _ (b : List ℕ) where
         → waitsAt (groundAt b (suc i)) (freeAt b (suc i)) goals pairs i j ≡ waits b (suc i) (suc j)
     unfolding waits
     waits-at i j li lj =
-        ap₂ _&&_ (ltb-suc i j)
+        ap₂ _&&_ (earlier-at (goalCount b) i j lj)
         (ap₂ (λ (x : ℕ) (y : ℕ). waitsBy (groundAt b (suc i)) (freeAt b (suc i)) pairs 64 x y) (goal-at i li) (goal-at j lj)
         ∙ waits-listed (groundAt b (suc i)) (freeAt b (suc i)) pairs (listed b) 64 (goalSet b (suc i)) (goalSet b (suc j)) pair-at)
 

@@ -1,30 +1,47 @@
 -- The order of a record is the order of the chains of its waits. For any bytes.
 use mathlib.Core.Path.{_≡_}
 use mathlib.Core.Logic.{_↔_}
-use mathlib.Core.Bool.{true, not}
+use mathlib.Core.Bool.{true, not, _&&_}
 use mathlib.Core.List.{List}
-use Prim.Native.Nat.{ℕ, _<_}
+use Prim.Native.Nat.{ℕ, _≤_, _<_}
 use native.Mathlib.Omega.{arith}
-use lib.Dec.{ltb}
-use borrow.Author.Tests.{ltb-true}
-use Rattle.logic.proofs.Bools.{iff, and-l}
+use lib.Dec.{leb, ltb}
+use borrow.Author.Tests.{leb-true, ltb-true}
+use Rattle.logic.proofs.Bools.{iff, and-l, and-r}
+use Rattle.fields.specs.Facts.{groundAt, freeAt}
 use Rattle.record.specs.Fields.{goalCount, goalSet, listed}
 use Rattle.judge.specs.Independence.{independent}
 use Rattle.expression.specs.Expr.{Goals, Order}
 use Rattle.expression.specs.Closure.{Chain, wait, link, closed}
 use Rattle.expression.proofs.Closure.{closed-chain, chain-closed, waiting-order}
-use Rattle.order.specs.Order.{groundAt, freeAt, waits, Before, before}
+use Rattle.order.specs.Order.{earlier, waits, Before, before}
 
--- only a later goal waits
-waits-rise : (b : List ℕ) (i j : ℕ) → waits b i j ≡ true → i < j
+-- only a later goal waits, and only goals do
+waits-parts : (b : List ℕ) (i j : ℕ) → waits b i j ≡ true → (1 ≤ i) × (i < j) × (j ≤ goalCount b)
 unfolding waits
-waits-rise b i j h =
-    ltb-true i j (and-l (ltb i j) (not (independent (groundAt b i) (freeAt b i) (listed b) 64 (goalSet b i) (goalSet b j))) h)
+waits-parts b i j h =
+    let n = goalCount b in
+    let e = and-l (earlier n i j) (not (independent (groundAt b i) (freeAt b i) (listed b) 64 (goalSet b i) (goalSet b j))) h in
+    let d = and-l (leb 1 i && ltb i j) (leb j n) e in
+    (leb-true 1 i (and-l (leb 1 i) (ltb i j) d), ltb-true i j (and-r (leb 1 i) (ltb i j) d), leb-true j n (and-r (leb 1 i && ltb i j) (leb j n) e))
+
+waits-rise : (b : List ℕ) (i j : ℕ) → waits b i j ≡ true → i < j
+waits-rise b i j h = waits-parts b i j h .1
 
 -- 01: "Goal i is before goal j if a chain of waits leads from i to j": so does the test
 pub before-is : (b : List ℕ) (i j : ℕ) → (before b i j ≡ true) ↔ Before b i j
 unfolding before
 before-is b i j = (closed-chain (waits b) (goalCount b) (goalCount b) i j (omega arith), chain-closed (waits b) (goalCount b) i j)
+
+-- 01: "The record's order is the waiting order above, on goals 1 to n"
+chain-goals : (b : List ℕ) (i j : ℕ) → Before b i j → Goals (goalCount b) i × Goals (goalCount b) j
+chain-goals b i j (wait h) =
+    let p = waits-parts b i j h in
+    ((p .0, omega arith), (omega arith, p .2))
+chain-goals b i k (link {j = j} g a c) = (chain-goals b i j a .0, chain-goals b j k c .1)
+
+pub before-goals : (b : List ℕ) (i j : ℕ) → before b i j ≡ true → Goals (goalCount b) i × Goals (goalCount b) j
+before-goals b i j h = chain-goals b i j (before-is b i j .0 h)
 
 -- it is a strict order on the goals, from lower to higher numbers
 pub before-order : (b : List ℕ) → Order (before b) (Goals (goalCount b))

@@ -2,24 +2,21 @@
 use mathlib.Core.Bool.{Bool, not, _&&_}
 use mathlib.Core.List.{List}
 use Prim.Native.Nat.{ℕ}
-use lib.Dec.{ltb}
-use Rattle.record.specs.Fields.{goalCount, groundSet, goalSet, listed}
+use lib.Dec.{leb, ltb}
+use Rattle.fields.specs.Facts.{groundAt, freeAt}
+use Rattle.record.specs.Fields.{goalCount, goalSet, listed}
 use Rattle.expression.specs.Closure.{Chain, closed}
 use Rattle.graph.specs.Graph.{graphOf}
 use Rattle.graph.specs.declared.Graph.{Graph}
 use Rattle.judge.specs.Independence.{independent}
 
--- the facts for a pair of goals whose earlier one is i: the variables known ground, and those known independent of every other.
--- 01: "Its facts are taken to hold at every goal"; version 1 knows no variable of the second kind.
-abbrev pub groundAt : List ℕ → ℕ → ℕ
-groundAt b i = groundSet b
+-- the goals i and j are among the goals 1 to n, and i is the earlier
+abbrev pub earlier : ℕ → ℕ → ℕ → Bool
+earlier n i j = leb 1 i && ltb i j && leb j n
 
-abbrev pub freeAt : List ℕ → ℕ → ℕ
-freeAt b i = 0
-
--- 01: "Otherwise the later goal waits for the earlier one": goal j waits for the earlier goal i
+-- 01: "Otherwise the later goal waits for the earlier one": goal j waits for the earlier goal i, by the facts that hold at goal i
 unfoldable pub waits : List ℕ → ℕ → ℕ → Bool
-waits b i j = ltb i j && not (independent (groundAt b i) (freeAt b i) (listed b) 64 (goalSet b i) (goalSet b j))
+waits b i j = earlier (goalCount b) i j && not (independent (groundAt b i) (freeAt b i) (listed b) 64 (goalSet b i) (goalSet b j))
 
 -- 01: "Goal i is before goal j if a chain of waits leads from i to j"
 abbrev pub Before : List ℕ → ℕ → ℕ → Type 0
