@@ -12,6 +12,7 @@ ghost use lib.Dec.{leb};
 ghost use Rattle.order.specs.Order.{before};
 ghost use Rattle.grammar.specs.Check.{checked};
 ghost use Rattle.fields.specs.Fields as F;
+ghost use Rattle.form.specs.Form as P;
 ghost use Rattle.mel.specs.Annotation as M;
 ghost use Rattle.annotator.specs.Answers as W;
 ghost use Rattle.annotator.specs.Part.{PartAt};
@@ -155,4 +156,19 @@ pub fn mel(bytes: &[u8], out: &mut [u8]) -> mel::Written
     ensures { λ _. ⌜ now (out .exit) ≡ M.melBuffer (now (bytes .entry)) (now (out .entry)) ⌝ }
 {
     mel::write(bytes, out)
+}
+
+// Writes the house form of a record's order into `out`: its length, or a refusal, 13 with its four goals, that leaves `out` as it was.
+pub fn form(bytes: &[u8], out: &mut [u8]) -> form::Written
+    ensures { λ r. ⌜ P.values r ≡ P.answer (P.plan (now (bytes .entry))) (now (out .entry)) ⌝ }
+    ensures { λ _. ⌜ now (out .exit) ≡ P.filled (P.plan (now (bytes .entry))) (now (out .entry)) ⌝ }
+{
+    form::write(bytes, out)
+}
+
+// Estimates the length of a record's form: a number from it up to 160, or a refusal, 13 with its four goals.
+pub fn form_length(bytes: &[u8]) -> form::Estimate
+    ensures { λ r. ⌜ P.Estimated (P.plan (now (bytes .entry))) (P.estimate r) ⌝ }
+{
+    form::length(bytes)
 }
