@@ -1,7 +1,7 @@
 // Writing the annotation. A byte past the buffer's end is counted and not stored (crate text), so the same functions measure and store.
 ghost use mathlib.Core.Path.{_≡_};
 ghost use mathlib.Core.Bool.{true, false};
-ghost use Prim.Native.Nat.{ℕ, _+_, _^_, _<_, _≤_};
+ghost use Prim.Native.Nat.{ℕ, _+_, _*_, _^_, _<_, _≤_};
 ghost use lib.ListN.{length};
 use reading::Reading;
 use refusal::Refusal;
@@ -216,7 +216,17 @@ pub enum Written {
     Refused(Refusal),
 }
 
-// Writes the annotation of a clause of 1 to 32 goals, or refuses with 12 and the length needed.
+// No annotation of n goals with v variables is longer.
+fn most(n: usize, v: u32) -> usize
+    requires { ⌜ (n ≤ 32) × (v ≤ 64) ⌝ }
+    ensures { λ r. ⌜ r ≡ n * (15 * (v + v * v)) + 8 * n ⌝ }
+{
+    let w = v as usize;
+    let c = 15 * (w + w * w);
+    n * c + 8 * n
+}
+
+// Writes the annotation of a clause of 1 to 32 goals, or refuses with 12 and the length needed. A text that may not fit is measured first.
 fn write_clause(out: &mut [u8], head: u64, sets: &[u64], grounds: &[u64], rows: &[u64]) -> Written
     requires { ⌜ (0 < length (now sets)) × (length (now sets) ≤ 32) ⌝ }
     ensures { λ r.
@@ -229,9 +239,14 @@ fn write_clause(out: &mut [u8], head: u64, sets: &[u64], grounds: &[u64], rows: 
     let n = sets.len();
     let b = stages::up_to(sets);
     let before = b.set;
+    let room = out.len();
+    let v = sets::count(stages::goal(&before, n + 1));
+    if most(n, v) <= room {
+        let o = put_stages(out, 0, head, sets, &before, grounds, rows, n);
+        return Written::Done(o);
+    }
     let mut nowhere = [0u8; 0];
     let need = put_stages(&mut nowhere, 0, head, sets, &before, grounds, rows, n);
-    let room = out.len();
     if room < need {
         return Written::Refused(Refusal {
             number: 12,
