@@ -13,7 +13,7 @@ ghost use Rattle.mel.specs.Texts as X;
 ghost use Rattle.mel.specs.Annotation as N;
 
 // Writes one check of a variable.
-pub fn put_ground(out: &mut [u8], at: usize, x: u8) -> usize
+fn put_ground(out: &mut [u8], at: usize, x: u8) -> usize
     requires { ⌜ x < 100 ⌝ }
     requires { ⌜ at + length (W.checkText (W.Ground x)) < 2 ^ 63 ⌝ }
     ensures { λ r. ⌜ Wrote (W.checkText (W.Ground x)) at (now (out .entry)) r (now (out .exit)) ⌝ }
@@ -24,7 +24,7 @@ pub fn put_ground(out: &mut [u8], at: usize, x: u8) -> usize
 }
 
 // Writes one check of two variables.
-pub fn put_indep(out: &mut [u8], at: usize, x: u8, y: u8) -> usize
+fn put_indep(out: &mut [u8], at: usize, x: u8, y: u8) -> usize
     requires { ⌜ (x < 100) × (y < 100) ⌝ }
     requires { ⌜ at + length (W.checkText (W.Indep x y)) < 2 ^ 63 ⌝ }
     ensures { λ r. ⌜ Wrote (W.checkText (W.Indep x y)) at (now (out .entry)) r (now (out .exit)) ⌝ }
@@ -37,7 +37,7 @@ pub fn put_indep(out: &mut [u8], at: usize, x: u8, y: u8) -> usize
 }
 
 // Writes the check of each variable of a set, ascending.
-pub fn put_grounds(out: &mut [u8], at: usize, set: u64) -> usize
+fn put_grounds(out: &mut [u8], at: usize, set: u64) -> usize
     requires { ⌜ at + length (X.groundsText false set) < 2 ^ 63 ⌝ }
     ensures { λ r. ⌜ Wrote (X.groundsText false set) at (now (out .entry)) r (now (out .exit)) ⌝ }
 {
@@ -55,7 +55,7 @@ pub fn put_grounds(out: &mut [u8], at: usize, set: u64) -> usize
 }
 
 // Writes the check of x with each variable of a set, ascending; a comma before the first where `more` holds.
-pub fn put_row(out: &mut [u8], at: usize, x: u8, set: u64, more: bool) -> usize
+fn put_row(out: &mut [u8], at: usize, x: u8, set: u64, more: bool) -> usize
     requires { ⌜ x < 100 ⌝ }
     requires { ⌜ at + length (X.rowText more x set) < 2 ^ 63 ⌝ }
     ensures { λ r. ⌜ Wrote (X.rowText more x set) at (now (out .entry)) r (now (out .exit)) ⌝ }
@@ -74,7 +74,7 @@ pub fn put_row(out: &mut [u8], at: usize, x: u8, set: u64, more: bool) -> usize
 }
 
 // Writes the check of each candidate with its partners, ascending.
-pub fn put_pairs(
+fn put_pairs(
     out: &mut [u8],
     at: usize,
     sets: &[u64],
@@ -104,7 +104,7 @@ pub fn put_pairs(
 }
 
 // Writes the goals p+1 to q, `&` between them.
-pub fn put_goals(out: &mut [u8], at: usize, p: usize, q: usize) -> usize
+fn put_goals(out: &mut [u8], at: usize, p: usize, q: usize) -> usize
     requires { ⌜ (p ≤ q) × (q < 100) ⌝ }
     requires { ⌜ at + length (W.goalsText p q) < 2 ^ 63 ⌝ }
     ensures { λ r. ⌜ Wrote (W.goalsText p q) at (now (out .entry)) r (now (out .exit)) ⌝ }
@@ -120,7 +120,7 @@ pub fn put_goals(out: &mut [u8], at: usize, p: usize, q: usize) -> usize
 }
 
 // Writes the arrow after checks, where there are any.
-pub fn put_arrow(out: &mut [u8], at: usize, on: bool) -> usize
+fn put_arrow(out: &mut [u8], at: usize, on: bool) -> usize
     requires { ⌜ at + 2 < 2 ^ 64 ⌝ }
     ensures { λ r. ⌜ Wrote (W.arrowIf on) at (now (out .entry)) r (now (out .exit)) ⌝ }
 {
@@ -131,7 +131,7 @@ pub fn put_arrow(out: &mut [u8], at: usize, on: bool) -> usize
 }
 
 // Writes the checks of the stage p+1 to q.
-pub fn put_checks(
+fn put_checks(
     out: &mut [u8],
     at: usize,
     head: u64,
@@ -158,7 +158,7 @@ pub fn put_checks(
 }
 
 // Writes the stage p+1 to q: a goal's number, or its checks, an arrow where there are any, and its goals.
-pub fn put_stage(
+fn put_stage(
     out: &mut [u8],
     at: usize,
     head: u64,
@@ -185,7 +185,7 @@ pub fn put_stage(
 }
 
 // Writes the stages of goals 1 to q, a comma between them: the last stage is found first and written last.
-pub fn put_stages(
+fn put_stages(
     out: &mut [u8],
     at: usize,
     head: u64,
