@@ -18,7 +18,7 @@ use Rattle.mel.specs.Texts.{checksText, stageText, stagesText, melText}
 use Rattle.mel.proofs.Lists.{checks-step, checks-none, ground-length, indep-length}
 use Rattle.mel.proofs.Whole.{stages-one, stages-more, stage-parts, stage-one}
 
-same-or : (a b : ℕ) → (a ≡ b) ⊎ (a ≡ b → ⊥)
+pub same-or : (a b : ℕ) → (a ≡ b) ⊎ (a ≡ b → ⊥)
 same-or a b = go (eqb a b) refl
   where
     go : (t : Bool) → eqb a b ≡ t → (a ≡ b) ⊎ (a ≡ b → ⊥)
@@ -29,7 +29,7 @@ check-length : (c : Check) → length (checkText c) ≤ 14
 check-length (Ground x) = omega (arith, ground-length x, decimal-length x)
 check-length (Indep x y) = omega (arith, indep-length x y, decimal-length x, decimal-length y)
 
-checks-length : (more : Bool) (l : List Check) → length (checksFrom more l) ≤ 15 * length l
+pub checks-length : (more : Bool) (l : List Check) → length (checksFrom more l) ≤ 15 * length l
 checks-length more [] = omega (arith, ap length (checks-none more))
 checks-length more (c ∷ l) = omega (arith, simp length-append at (ap length (checks-step more c l)), only-length more 44, check-length c, checks-length true l)
 
@@ -62,7 +62,7 @@ goals-length more zero p = rw (join-none more 38) zero-le
 goals-length more (suc k) p =
     omega (arith, simp length-append at (ap length (join-step more 38 (decimal (suc p)) (map decimal (goalsFrom k (suc p))))), only-length more 38, decimal-length (suc p), goals-length true k (suc p))
 
-arrow-length : (b : Bool) → length (arrowIf b) ≤ 2
+pub arrow-length : (b : Bool) → length (arrowIf b) ≤ 2
 unfolding arrowIf
 arrow-length true = omega arith
 arrow-length false = omega arith
@@ -72,7 +72,7 @@ module _ (head : ℕ) (sets grounds rows : List ℕ) where
   unfolding checksText given
   checks-bound p q = omega (arith, checks-length false (checks (given head sets grounds rows) p q), checks-count (given head sets grounds rows) (omega arith) p q)
 
-  goals-bound : (p q : ℕ) → length (goalsText p q) ≤ 3 * (q - p)
+  pub goals-bound : (p q : ℕ) → length (goalsText p q) ≤ 3 * (q - p)
   unfolding goalsText
   goals-bound p q = goals-length false (q - p) p
 
@@ -83,7 +83,7 @@ module _ (head : ℕ) (sets grounds rows : List ℕ) where
       (λ n. omega (arith, h, simp length-append at (ap length (stage-parts head sets grounds rows p q n)), checks-bound p q, goals-bound p q, arrow-length (some (checksText head sets grounds rows p q))))
       (same-or q (p + 1))
 
-  none-text : length (stagesText head sets grounds rows 0) ≤ 0
+  pub none-text : length (stagesText head sets grounds rows 0) ≤ 0
   unfolding stagesText W.stagesText given
   none-text = rw (stages-none 64 head sets, join-none false 44) zero-le
 

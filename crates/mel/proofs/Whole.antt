@@ -18,10 +18,10 @@ use Rattle.mel.proofs.Lists.{checks-append}
 
 module _ (head : ℕ) (sets grounds rows : List ℕ) where
   module _ (p q : ℕ) where
-    abbrev gset : ℕ
+    abbrev pub gset : ℕ
     gset = without (twice sets p q) (goal grounds (p + 1))
 
-    abbrev kset : ℕ
+    abbrev pub kset : ℕ
     kset = candidates (once sets p q) (twice sets p q) (union head (once sets 0 p)) (goal grounds (p + 1))
 
     pairs-masks : (k x : ℕ) → indepsFrom (given head sets grounds rows) k x p q ≡ pairsOf sets rows p q kset (membersFrom k x kset)
@@ -47,7 +47,7 @@ module _ (head : ℕ) (sets grounds rows : List ℕ) where
             (those-none 64 0 (indepCheck (given head sets grounds rows) p q x) (λ y. masks y ∙ ap (λ (t : Bool). t && has (partners sets p q kset (goal rows (x + 1)) x) y) e))
             ∙ ih
 
-    checks-masks : checks (given head sets grounds rows) p q ≡ map Ground (members 64 gset) ++ pairsOf sets rows p q kset (members 64 kset)
+    pub checks-masks : checks (given head sets grounds rows) p q ≡ map Ground (members 64 gset) ++ pairsOf sets rows p q kset (members 64 kset)
     unfolding given checks
     checks-masks = ap₂ (λ (a : List ℕ) (b : List Check). map Ground a ++ b) (grounds-mask (given head sets grounds rows) p q) (pairs-masks 64 0)
 

@@ -1,7 +1,7 @@
 // Writing the annotation. A byte past the buffer's end is counted and not stored (crate text), so the same functions measure and store.
 ghost use mathlib.Core.Path.{_≡_};
 ghost use mathlib.Core.Bool.{true, false};
-ghost use Prim.Native.Nat.{ℕ, _+_, _^_, _<_, _≤_};
+ghost use Prim.Native.Nat.{ℕ, _+_, _*_, _^_, _<_, _≤_};
 ghost use lib.ListN.{length};
 use reading::Reading;
 use refusal::Refusal;
@@ -13,7 +13,7 @@ ghost use Rattle.mel.specs.Texts as X;
 ghost use Rattle.mel.specs.Annotation as N;
 
 // Writes one check of a variable.
-pub fn put_ground(out: &mut [u8], at: usize, x: u8) -> usize
+fn put_ground(out: &mut [u8], at: usize, x: u8) -> usize
     requires { ⌜ x < 100 ⌝ }
     requires { ⌜ at + length (W.checkText (W.Ground x)) < 2 ^ 63 ⌝ }
     ensures { λ r. ⌜ Wrote (W.checkText (W.Ground x)) at (now (out .entry)) r (now (out .exit)) ⌝ }
@@ -24,7 +24,7 @@ pub fn put_ground(out: &mut [u8], at: usize, x: u8) -> usize
 }
 
 // Writes one check of two variables.
-pub fn put_indep(out: &mut [u8], at: usize, x: u8, y: u8) -> usize
+fn put_indep(out: &mut [u8], at: usize, x: u8, y: u8) -> usize
     requires { ⌜ (x < 100) × (y < 100) ⌝ }
     requires { ⌜ at + length (W.checkText (W.Indep x y)) < 2 ^ 63 ⌝ }
     ensures { λ r. ⌜ Wrote (W.checkText (W.Indep x y)) at (now (out .entry)) r (now (out .exit)) ⌝ }
@@ -37,7 +37,7 @@ pub fn put_indep(out: &mut [u8], at: usize, x: u8, y: u8) -> usize
 }
 
 // Writes the check of each variable of a set, ascending.
-pub fn put_grounds(out: &mut [u8], at: usize, set: u64) -> usize
+fn put_grounds(out: &mut [u8], at: usize, set: u64) -> usize
     requires { ⌜ at + length (X.groundsText false set) < 2 ^ 63 ⌝ }
     ensures { λ r. ⌜ Wrote (X.groundsText false set) at (now (out .entry)) r (now (out .exit)) ⌝ }
 {
@@ -55,7 +55,7 @@ pub fn put_grounds(out: &mut [u8], at: usize, set: u64) -> usize
 }
 
 // Writes the check of x with each variable of a set, ascending; a comma before the first where `more` holds.
-pub fn put_row(out: &mut [u8], at: usize, x: u8, set: u64, more: bool) -> usize
+fn put_row(out: &mut [u8], at: usize, x: u8, set: u64, more: bool) -> usize
     requires { ⌜ x < 100 ⌝ }
     requires { ⌜ at + length (X.rowText more x set) < 2 ^ 63 ⌝ }
     ensures { λ r. ⌜ Wrote (X.rowText more x set) at (now (out .entry)) r (now (out .exit)) ⌝ }
@@ -74,7 +74,7 @@ pub fn put_row(out: &mut [u8], at: usize, x: u8, set: u64, more: bool) -> usize
 }
 
 // Writes the check of each candidate with its partners, ascending.
-pub fn put_pairs(
+fn put_pairs(
     out: &mut [u8],
     at: usize,
     sets: &[u64],
@@ -104,7 +104,7 @@ pub fn put_pairs(
 }
 
 // Writes the goals p+1 to q, `&` between them.
-pub fn put_goals(out: &mut [u8], at: usize, p: usize, q: usize) -> usize
+fn put_goals(out: &mut [u8], at: usize, p: usize, q: usize) -> usize
     requires { ⌜ (p ≤ q) × (q < 100) ⌝ }
     requires { ⌜ at + length (W.goalsText p q) < 2 ^ 63 ⌝ }
     ensures { λ r. ⌜ Wrote (W.goalsText p q) at (now (out .entry)) r (now (out .exit)) ⌝ }
@@ -120,7 +120,7 @@ pub fn put_goals(out: &mut [u8], at: usize, p: usize, q: usize) -> usize
 }
 
 // Writes the arrow after checks, where there are any.
-pub fn put_arrow(out: &mut [u8], at: usize, on: bool) -> usize
+fn put_arrow(out: &mut [u8], at: usize, on: bool) -> usize
     requires { ⌜ at + 2 < 2 ^ 64 ⌝ }
     ensures { λ r. ⌜ Wrote (W.arrowIf on) at (now (out .entry)) r (now (out .exit)) ⌝ }
 {
@@ -131,7 +131,7 @@ pub fn put_arrow(out: &mut [u8], at: usize, on: bool) -> usize
 }
 
 // Writes the checks of the stage p+1 to q.
-pub fn put_checks(
+fn put_checks(
     out: &mut [u8],
     at: usize,
     head: u64,
@@ -158,7 +158,7 @@ pub fn put_checks(
 }
 
 // Writes the stage p+1 to q: a goal's number, or its checks, an arrow where there are any, and its goals.
-pub fn put_stage(
+fn put_stage(
     out: &mut [u8],
     at: usize,
     head: u64,
@@ -185,7 +185,7 @@ pub fn put_stage(
 }
 
 // Writes the stages of goals 1 to q, a comma between them: the last stage is found first and written last.
-pub fn put_stages(
+fn put_stages(
     out: &mut [u8],
     at: usize,
     head: u64,
@@ -216,7 +216,17 @@ pub enum Written {
     Refused(Refusal),
 }
 
-// Writes the annotation of a clause of 1 to 32 goals, or refuses with 12 and the length needed.
+// No annotation of n goals with v variables is longer.
+fn most(n: usize, v: u32) -> usize
+    requires { ⌜ (n ≤ 32) × (v ≤ 64) ⌝ }
+    ensures { λ r. ⌜ r ≡ n * (15 * (v + v * v)) + 8 * n ⌝ }
+{
+    let w = v as usize;
+    let c = 15 * (w + w * w);
+    n * c + 8 * n
+}
+
+// Writes the annotation of a clause of 1 to 32 goals, or refuses with 12 and the length needed. A text that may not fit is measured first.
 fn write_clause(out: &mut [u8], head: u64, sets: &[u64], grounds: &[u64], rows: &[u64]) -> Written
     requires { ⌜ (0 < length (now sets)) × (length (now sets) ≤ 32) ⌝ }
     ensures { λ r.
@@ -229,9 +239,14 @@ fn write_clause(out: &mut [u8], head: u64, sets: &[u64], grounds: &[u64], rows: 
     let n = sets.len();
     let b = stages::up_to(sets);
     let before = b.set;
+    let room = out.len();
+    let v = sets::count(stages::goal(&before, n + 1));
+    if most(n, v) <= room {
+        let o = put_stages(out, 0, head, sets, &before, grounds, rows, n);
+        return Written::Done(o);
+    }
     let mut nowhere = [0u8; 0];
     let need = put_stages(&mut nowhere, 0, head, sets, &before, grounds, rows, n);
-    let room = out.len();
     if room < need {
         return Written::Refused(Refusal {
             number: 12,

@@ -1,0 +1,149 @@
+-- A bound on the length of the annotation by the number of goals n and of variables v: n * 15 * (v + v * v) + 8 * n. A buffer as long as that takes every
+-- such text, so it is written without being measured. Assumes nothing.
+use mathlib.Core.Path.{_≡_, refl, sym, ap, _∙_}
+use mathlib.Core.Logic.{⊎-elim}
+use mathlib.Core.Bool.{Bool, true, false, cond, true≢false}
+use mathlib.Core.List.{List, [], _∷_, map}
+use Prim.Native.Nat.{ℕ, zero, suc, _+_, _-_, _*_, _≤_, _<_, _^_, zero-le, suc-le-suc}
+use native.Mathlib.Nat.{le-step, suc-mul, mul-le-mul-right}
+use native.Mathlib.Omega.{arith}
+use lib.ListN.{length, length-append, length-map}
+use Rattle.logic.proofs.Bools.{and-l}
+use Rattle.sets.specs.Sets.{has, meet, union, without, below, count, membersFrom, members}
+use Rattle.sets.proofs.Laws.{has-meet, has-without}
+use Rattle.sets.proofs.Members.{count-members}
+use Rattle.text.specs.Text.{some}
+use Rattle.text.proofs.Laws.{decimal-length}
+use Rattle.stages.specs.Mel.{Ground, Indep, goal, start, checks}
+use Rattle.stages.specs.Masks.{given, once, twice, goalWith, candidates, partners}
+use Rattle.stages.proofs.Words.{occurs-out, occurs-in, shared-out}
+use Rattle.stages.proofs.Masks.{has-once, has-twice}
+use Rattle.stages.proofs.Stages.{by-stages, start-falls}
+use Rattle.mel.specs.Texts.{pairsOf, checksText, stageText, stagesText, melText}
+use Rattle.mel.proofs.Whole.{gset, kset, checks-masks, stages-one, stages-more, stage-parts, stage-one}
+use Rattle.mel.proofs.Length.{same-or, checks-length, goals-bound, arrow-length, none-text, mel-text}
+
+-- a set has no more members than one that holds them all, and no more than the width
+members-le : (w i a b : ℕ) → ((j : ℕ) → has a j ≡ true → has b j ≡ true) → length (membersFrom w i a) ≤ length (membersFrom w i b)
+unfolding membersFrom
+members-le zero i a b h = zero-le
+members-le (suc w) i a b h = go (has a i) (has b i) (h i) (members-le w (suc i) a b h)
+  where
+    go : (s t : Bool) → (s ≡ true → t ≡ true) → length (membersFrom w (suc i) a) ≤ length (membersFrom w (suc i) b)
+        → length (cond s (i ∷ membersFrom w (suc i) a) (membersFrom w (suc i) a)) ≤ length (cond t (i ∷ membersFrom w (suc i) b) (membersFrom w (suc i) b))
+    go true true f l = suc-le-suc l
+    go true false f l = absurd (true≢false (sym (f refl)))
+    go false true f l = le-step l
+    go false false f l = l
+
+members-width : (w i m : ℕ) → length (membersFrom w i m) ≤ w
+unfolding membersFrom
+members-width zero i m = zero-le
+members-width (suc w) i m = go (has m i) (members-width w (suc i) m)
+  where
+    go : (s : Bool) → length (membersFrom w (suc i) m) ≤ w → length (cond s (i ∷ membersFrom w (suc i) m) (membersFrom w (suc i) m)) ≤ suc w
+    go true l = suc-le-suc l
+    go false l = le-step l
+
+pub count-width : (m : ℕ) → m < 2 ^ 64 → count m ≤ 64
+count-width m h = omega (arith, count-members 64 m h, members-width 64 0 m)
+
+left-of : (a b i : ℕ) → has (without a b) i ≡ true → has a i ≡ true
+left-of a b i e = and-l (has a i) _ (sym (has-without a b i) ∙ e)
+
+partners-in : (sets : List ℕ) (p q k row x y : ℕ) → has (partners sets p q k row x) y ≡ true → has k y ≡ true
+unfolding partners
+partners-in sets p q k row x y e =
+    left-of k row y (left-of (without k row) (goalWith sets p q x) y (left-of (without (without k row) (goalWith sets p q x)) (below (x + 1)) y e))
+
+module _ (head : ℕ) (sets grounds rows : List ℕ) (n : ℕ) where
+  -- the variables of the goals, and how many they are
+  abbrev vars : ℕ
+  vars = once sets 0 n
+
+  abbrev v : ℕ
+  v = length (members 64 vars)
+
+  once-in : (p q x : ℕ) → q ≤ n → has (once sets p q) x ≡ true → has vars x ≡ true
+  once-in p q x h e =
+      let s = occurs-out sets p q x (sym (has-once sets p q x) ∙ e) in
+      has-once sets 0 n x ∙ occurs-in sets 0 n x (s .g) (omega (arith, s .above)) (omega (arith, s .upto, h)) (s .so)
+
+  twice-in : (p q x : ℕ) → q ≤ n → has (twice sets p q) x ≡ true → has vars x ≡ true
+  twice-in p q x h e =
+      let s = shared-out sets p q x (sym (has-twice sets p q x) ∙ e) in
+      has-once sets 0 n x ∙ occurs-in sets 0 n x (s .t) (omega (arith, s .order)) (omega (arith, s .upto, h)) (s .in-t)
+
+  gset-in : (p q x : ℕ) → q ≤ n → has (gset head sets grounds rows p q) x ≡ true → has vars x ≡ true
+  gset-in p q x h e = twice-in p q x h (left-of (twice sets p q) (goal grounds (p + 1)) x e)
+
+  kset-in : (p q x : ℕ) → q ≤ n → has (kset head sets grounds rows p q) x ≡ true → has vars x ≡ true
+  unfolding candidates
+  kset-in p q x h e =
+      let met = union head (once sets 0 p) in
+      let both = left-of (meet (once sets p q) met) (twice sets p q) x (left-of (without (meet (once sets p q) met) (twice sets p q)) (goal grounds (p + 1)) x e) in
+      once-in p q x h (and-l (has (once sets p q) x) (has met x) (sym (has-meet (once sets p q) met x) ∙ both))
+
+  pairs-count : (p q k : ℕ) → ((y : ℕ) → has k y ≡ true → has vars y ≡ true) → (l : List ℕ) → length (pairsOf sets rows p q k l) ≤ length l * v
+  unfolding pairsOf
+  pairs-count p q k h [] = zero-le
+  pairs-count p q k h (x ∷ l) =
+      let set = partners sets p q k (goal rows (x + 1)) x in
+      omega (
+        arith,
+        length-append (map (Indep x) (members 64 set)) (pairsOf sets rows p q k l),
+        length-map (members 64 set) (Indep x),
+        members-le 64 0 set vars (λ y e. h y (partners-in sets p q k (goal rows (x + 1)) x y e)),
+        pairs-count p q k h l,
+        suc-mul (length l) v,
+      )
+
+  checks-count : (p q : ℕ) → q ≤ n → length (checks (given head sets grounds rows) p q) ≤ v + v * v
+  checks-count p q h =
+      let g = members 64 (gset head sets grounds rows p q) in
+      let k = kset head sets grounds rows p q in
+      omega (
+        arith,
+        ap length (checks-masks head sets grounds rows p q),
+        length-append (map Ground g) (pairsOf sets rows p q k (members 64 k)),
+        length-map g Ground,
+        members-le 64 0 (gset head sets grounds rows p q) vars (λ x e. gset-in p q x h e),
+        pairs-count p q k (λ y e. kset-in p q y h e) (members 64 k),
+        mul-le-mul-right v (members-le 64 0 k vars (λ x e. kset-in p q x h e)),
+      )
+
+  checks-most : (p q : ℕ) → q ≤ n → length (checksText head sets grounds rows p q) ≤ 15 * (v + v * v)
+  unfolding checksText
+  checks-most p q h = omega (arith, checks-length false (checks (given head sets grounds rows) p q), checks-count p q h)
+
+  stage-most : (p q : ℕ) → q ≤ n → length (stageText head sets grounds rows p q) ≤ 15 * (v + v * v) + 3 * (q - p) + 4
+  stage-most p q h =
+      ⊎-elim
+      (λ e. omega (arith, ap length (stage-one head sets grounds rows p q e), decimal-length q))
+      (λ d. omega (arith, simp length-append at (ap length (stage-parts head sets grounds rows p q d)), checks-most p q h, goals-bound head sets grounds rows p q, arrow-length (some (checksText head sets grounds rows p q))))
+      (same-or q (p + 1))
+
+  stages-most : (q : ℕ) → q ≤ n → length (stagesText head sets grounds rows q) ≤ q * (15 * (v + v * v)) + 8 * q
+  stages-most =
+      by-stages 64 head sets (λ q. q ≤ n → length (stagesText head sets grounds rows q) ≤ q * (15 * (v + v * v)) + 8 * q) (λ h. omega (arith, none-text head sets grounds rows)) (λ q l ih h.
+      let p = start 64 head sets q in
+      let c = 15 * (v + v * v) in
+      let f : suc p ≤ q = start-falls 64 head sets q l in
+      ⊎-elim
+      (λ e. omega (arith, f, ap length (stages-one head sets grounds rows q l e), stage-most p q h, suc-mul p c, mul-le-mul-right c f))
+      (λ d. omega (arith, f, ih (omega (arith, f, h)), simp length-append at (ap length (stages-more head sets grounds rows q l d)), stage-most p q h, suc-mul p c, mul-le-mul-right c f))
+      (same-or p 0))
+
+-- the whole text, with the variables counted by the code
+pub text-most : (head : ℕ) (sets grounds rows : List ℕ) (m : ℕ) → m < 2 ^ 64 → m ≡ once sets 0 (length sets)
+    → length (melText head sets grounds rows) ≤ length sets * (15 * (count m + count m * count m)) + 8 * length sets
+text-most head sets grounds rows m h e =
+    let c : count m ≡ length (members 64 (once sets 0 (length sets))) = count-members 64 m h ∙ ap (λ (k : ℕ). length (members 64 k)) e in
+    rw c (omega (arith, ap length (mel-text head sets grounds rows), stages-most head sets grounds rows (length sets) (length sets) (omega arith)))
+
+-- the numbers of the bound fit a machine's number
+pub square : (v : ℕ) → v ≤ 64 → v * v ≤ 64 * v
+square v h = mul-le-mul-right v h
+
+pub product : (n c : ℕ) → n ≤ 32 → n * c ≤ 32 * c
+product n c h = mul-le-mul-right c h
