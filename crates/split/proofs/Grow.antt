@@ -6,7 +6,9 @@ use mathlib.Core.List.{List}
 use mathlib.Core.Logic.{_⊎_, inl, inr, ⊎-elim}
 use Prim.Native.Nat.{ℕ, zero, suc, _^_, _≤_, _<_}
 use native.Mathlib.Omega.{arith}
+use lib.Dec.{eqb}
 use lib.ListN.{getD}
+use borrow.Author.Tests.{eqb-true, eq-eqb, ne-eqb}
 use Rattle.logic.proofs.Bools.{and-l, and-r, and-i, or-elim, or-l, or-r, not-true, not-i, is-false}
 use Rattle.sets.specs.Sets.{union, meet, without, single, first, count}
 use Rattle.sets.proofs.Laws.{first-member}
@@ -16,7 +18,7 @@ use Rattle.graph.proofs.Goals.{goal-union, goal-meet, goal-without, goal-none, 
 use Rattle.expression.specs.Split.{tie, Component}
 use Rattle.expression.proofs.Bools.{test}
 use Rattle.split.specs.Split.{Has, Turned}
-use Rattle.split.specs.Hang.{hanging}
+use Rattle.split.specs.Hang.{hanging, pending}
 
 -- what a goal of `without a b`, of `union a b` is
 pub without-l : (a b g : ℕ) → Has (without a b) g → Has a g
@@ -177,34 +179,58 @@ module _ (after prior : List ℕ) (k : Bool) (set : ℕ) (turned : Turned after 
                   ⊎-elim (λ o. single-goal i g o) (λ o. clash (in-others g (without-i todo (single i) g d o)) t) (test (hasGoal (single i) g))
 
       -- one goal less to look at
-      pub grow-less : set < 2 ^ 32 → count (union (without left fresh) (union others fresh)) < count (union left todo)
-      grow-less l = part-less 32 (union (without left fresh) (union others fresh)) (union left todo) inside (part-lt 32 (union left todo) set all l) differ
+      pub grow-less : set < 2 ^ 32 → (todo′ : ℕ) → Part todo′ (union others fresh) → count (union (without left fresh) todo′) < count (union left todo)
+      grow-less l todo′ fewer = part-less 32 (union (without left fresh) todo′) (union left todo) inside (part-lt 32 (union left todo) set all l) differ
         where
           all : Part (union left todo) set
           all g e = or-elim (hasGoal left g) (hasGoal todo g) (sym (goal-union left todo g) ∙ e) (w .left-in g) (w .todo-in g)
 
-          inside : Part (union (without left fresh) (union others fresh)) (union left todo)
+          inside : Part (union (without left fresh) todo′) (union left todo)
           inside g e =
               goal-union left todo g
-              ∙ or-elim (hasGoal (without left fresh) g) (hasGoal (union others fresh) g) (sym (goal-union (without left fresh) (union others fresh) g) ∙ e)
+              ∙ or-elim (hasGoal (without left fresh) g) (hasGoal todo′ g) (sym (goal-union (without left fresh) todo′ g) ∙ e)
               (λ t. or-l (hasGoal left g) (hasGoal todo g) (without-l left fresh g t))
               (λ t.
               ⊎-elim (λ d. or-r (hasGoal left g) (hasGoal todo g) (without-l todo (single i) g d))
-              (λ d. or-l (hasGoal left g) (hasGoal todo g) (hanging-part left i g d)) (todo-cases g t))
+              (λ d. or-l (hasGoal left g) (hasGoal todo g) (hanging-part left i g d)) (todo-cases g (fewer g t)))
 
-          gone : Has (union (without left fresh) (union others fresh)) (suc i) → ⊥
+          gone : Has (union (without left fresh) todo′) (suc i) → ⊥
           gone e =
-              or-elim (hasGoal (without left fresh) (suc i)) (hasGoal (union others fresh) (suc i))
-              (sym (goal-union (without left fresh) (union others fresh) (suc i)) ∙ e)
+              or-elim (hasGoal (without left fresh) (suc i)) (hasGoal todo′ (suc i)) (sym (goal-union (without left fresh) todo′ (suc i)) ∙ e)
               (λ t. clash (without-l left fresh (suc i) t) (w .apart (suc i) u))
               (λ t.
               ⊎-elim (λ d. clash (goal-single i) (without-r todo (single i) (suc i) d))
-              (λ d. clash (hanging-part left i (suc i) d) (w .apart (suc i) u)) (todo-cases (suc i) t))
+              (λ d. clash (hanging-part left i (suc i) d) (w .apart (suc i) u)) (todo-cases (suc i) (fewer (suc i) t)))
 
-          differ : union (without left fresh) (union others fresh) ≡ union left todo → ⊥
+          differ : union (without left fresh) todo′ ≡ union left todo → ⊥
           differ e =
               gone
               (ap (λ (m : ℕ). hasGoal m (suc i)) e ∙ goal-union left todo (suc i) ∙ or-r (hasGoal left (suc i)) (hasGoal todo (suc i)) u)
+
+    -- where nothing is left, nothing is to be looked at
+    grow-pending : {left todo : ℕ} → Growing after k set x left todo → Growing after k set x left (pending todo left)
+    unfolding pending
+    grow-pending {left} {todo} w = go (eqb left 0) refl
+      where
+        go : (t : Bool) → eqb left 0 ≡ t → Growing after k set x left (cond t 0 todo)
+        go true e =
+            record {
+              left-in = w .left-in;
+              todo-in = λ g h. clash h (goal-none g);
+              apart = λ g h. clash h (goal-none g);
+              start = w .start;
+              looked = λ g j s f t l d. clash l (ap (λ (m : ℕ). hasGoal m j) (eqb-true left 0 e) ∙ goal-none j);
+              smallest = w .smallest;
+            }
+        go false e = w
+
+    pending-part : (todo left : ℕ) → Part (pending todo left) todo
+    unfolding pending
+    pending-part todo left = go (eqb left 0)
+      where
+        go : (t : Bool) → Part (cond t 0 todo) todo
+        go true g h = clash h (goal-none g)
+        go false g h = h
 
     -- the same, as the loop finds it
     pub grow-begin : Has set (suc x) → {left todo : ℕ} → todo ≡ single x → left ≡ without set todo → Growing after k set x left todo
@@ -214,15 +240,17 @@ module _ (after prior : List ℕ) (k : Bool) (set : ℕ) (turned : Turned after 
       pub pick-under : first 32 todo < 32
       pick-under = first-in 32 todo (part-lt 32 todo set (w .todo-in) l) n
 
-      pub grow-step : {i fresh left′ one others todo′ : ℕ} → i ≡ first 32 todo → fresh ≡ hanging after prior k left i → left′ ≡ without left fresh → one ≡ single i
-          → others ≡ without todo one → todo′ ≡ union others fresh
+      pub grow-step : {i fresh left′ one others next todo′ : ℕ} → i ≡ first 32 todo → fresh ≡ hanging after prior k left i → left′ ≡ without left fresh
+          → one ≡ single i → others ≡ without todo one → next ≡ union others fresh → todo′ ≡ pending next left′
           → Growing after k set x left′ todo′ × (count (union left′ todo′) < count (union left todo))
-      grow-step {i} {fresh} {left′} {one} {others} {todo′} ei ef el eo ex et =
+      grow-step {i} {fresh} {left′} {one} {others} {next} {todo′} ei ef el eo ex en et =
           let u : Has todo (suc i) = ap (λ (z : ℕ). hasGoal todo (suc z)) ei ∙ first-member 32 todo pick-under in
           let a : without left (hanging after prior k left i) ≡ left′ = sym (el ∙ ap (without left) ef) in
-          let b : union (without todo (single i)) (hanging after prior k left i) ≡ todo′ = sym (et ∙ ap₂ union (ex ∙ ap (without todo) eo) ef) in (
-            subst₂ (Growing after k set x) a b (grow-on w i u),
-            subst₂ (λ (p q : ℕ). count (union p q) < count (union left todo)) a b (grow-less w i u l),
+          let b : union (without todo (single i)) (hanging after prior k left i) ≡ next = sym (en ∙ ap₂ union (ex ∙ ap (without todo) eo) ef) in
+          let p : Part todo′ (union (without todo (single i)) (hanging after prior k left i))
+          = λ g h. ap (λ (m : ℕ). hasGoal m g) b ∙ pending-part next left′ g (ap (λ (m : ℕ). hasGoal m g) (sym et) ∙ h) in (
+            subst (Growing after k set x left′) (sym et) (grow-pending (subst₂ (Growing after k set x) a b (grow-on w i u))),
+            subst (λ (q : ℕ). count (union q todo′) < count (union left todo)) a (grow-less w i u l todo′ p),
           )
 
     pub grow-done : {left todo r : ℕ} → Has set (suc x) → Growing after k set x left todo → todo ≡ 0 → r ≡ without set left
@@ -239,3 +267,12 @@ pub hanging-group : (after prior : List ℕ) (k : Bool) (left i : ℕ) → k ≡
 unfolding hanging
 hanging-group after prior k left i e =
     sym (ap (λ (t : Bool). cond t (without left (union (getD after i 0) (getD prior i 0))) (meet left (union (getD after i 0) (getD prior i 0)))) e)
+
+-- whether the whole set is in the part
+pub pending-none : (todo left : ℕ) → left ≡ 0 → 0 ≡ pending todo left
+unfolding pending
+pending-none todo left e = sym (ap (λ (t : Bool). cond t 0 todo) (eq-eqb left 0 e))
+
+pub pending-some : (todo left : ℕ) → (left ≡ 0 → ⊥) → todo ≡ pending todo left
+unfolding pending
+pending-some todo left n = sym (ap (λ (t : Bool). cond t 0 todo) (ne-eqb left 0 n))

@@ -2,6 +2,7 @@
 use mathlib.Core.Bool.{Bool, cond}
 use mathlib.Core.List.{List}
 use Prim.Native.Nat.{ℕ}
+use lib.Dec.{eqb}
 use lib.ListN.{getD}
 use Rattle.sets.specs.Sets.{union, meet, without}
 use Rattle.graph.specs.Graph.{ahead}
@@ -10,6 +11,10 @@ use Rattle.graph.specs.Graph.{ahead}
 unfoldable pub hanging : List ℕ → List ℕ → Bool → ℕ → ℕ → ℕ
 hanging after prior k left i =
     cond k (without left (union (getD after i 0) (getD prior i 0))) (meet left (union (getD after i 0) (getD prior i 0)))
+
+-- what is still to be looked at of `todo`, where `left` is not yet in the part: nothing if that is empty
+unfoldable pub pending : ℕ → ℕ → ℕ
+pending todo left = cond (eqb left 0) 0 todo
 
 -- the order that the turned rows say
 abbrev pub behind : List ℕ → ℕ → ℕ → Bool

@@ -27,6 +27,13 @@ fn hanging(after: &[u32; 32], prior: &[u32; 32], k: bool, left: u32, i: usize) -
     }
 }
 
+// What is still to be looked at: nothing once the whole set is in the part.
+fn pending(todo: u32, left: u32) -> u32
+    ensures { λ r. ⌜ r ≡ Hang.pending todo left ⌝ }
+{
+    if left == 0 { 0 } else { todo }
+}
+
 // The part of the set that hangs together with goal x + 1: `left` is what is not yet in it, `todo` what is in it and whose neighbours are
 // not yet looked at.
 fn component(after: &[u32; 32], prior: &[u32; 32], k: bool, set: u32, x: usize) -> u32
@@ -41,7 +48,8 @@ fn component(after: &[u32; 32], prior: &[u32; 32], k: bool, set: u32, x: usize) 
         left = sets::without32(left, fresh);
         let one = sets::single32(i);
         let others = sets::without32(todo, one);
-        todo = sets::union32(others, fresh);
+        let next = sets::union32(others, fresh);
+        todo = pending(next, left);
     }
     sets::without32(set, left)
 }

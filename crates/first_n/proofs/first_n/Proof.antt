@@ -44,27 +44,22 @@ Inv-found rows prior n answer₀ a₀ answer a = (answer ≡ Nothing) × Passed 
 abbrev μ-found : tie.MeasureT-found
 μ-found rows prior n answer₀ a₀ answer a = n - a
 
--- src/lib.rt:86:5
 found-holds :
     tie.Need-found-holds Inv-loop3 μ-loop3 Inv-loop2 μ-loop2 Inv-loop μ-loop Inv-found μ-found
 found-holds c = (search needs, passed-none _ _)
 
--- src/lib.rt:87:9
 loop-holds :
     tie.Need-loop-holds Inv-loop3 μ-loop3 Inv-loop2 μ-loop2 Inv-loop μ-loop Inv-found μ-found
 loop-holds c = (search needs, passed-none _ _)
 
--- src/lib.rt:88:17
 thirds-requires :
     tie.Need-thirds-requires Inv-loop3 μ-loop3 Inv-loop2 μ-loop2 Inv-loop μ-loop Inv-found μ-found
 thirds-requires c κs = search needs
 
--- src/lib.rt:89:17
 first32-requires :
     tie.Need-first32-requires Inv-loop3 μ-loop3 Inv-loop2 μ-loop2 Inv-loop μ-loop Inv-found μ-found
 first32-requires c κs = search needs
 
--- src/lib.rt:89:13
 loop2-holds :
     tie.Need-loop2-holds Inv-loop3 μ-loop3 Inv-loop2 μ-loop2 Inv-loop μ-loop Inv-found μ-found
 loop2-holds c =
@@ -75,17 +70,14 @@ loop2-holds c =
           (ap (λ (m : ℕ). has m i) (sym (c .before .thirds .ensures)) ∙ first-least 32 _ i (omega (arith, c .first32 .ensures)))),
     )
 
--- src/lib.rt:90:20
 has32-requires :
     tie.Need-has32-requires Inv-loop3 μ-loop3 Inv-loop2 μ-loop2 Inv-loop μ-loop Inv-found μ-found
 has32-requires c κs = search needs
 
--- src/lib.rt:91:25
 lasts-requires :
     tie.Need-lasts-requires Inv-loop3 μ-loop3 Inv-loop2 μ-loop2 Inv-loop μ-loop Inv-found μ-found
 lasts-requires c κs = search needs
 
--- src/lib.rt:92:25
 first32-requires-2 :
     tie.Need-first32-requires-2
     Inv-loop3
@@ -98,7 +90,6 @@ first32-requires-2 :
     μ-found
 first32-requires-2 c κs = search needs
 
--- src/lib.rt:92:21
 loop3-holds :
     tie.Need-loop3-holds Inv-loop3 μ-loop3 Inv-loop2 μ-loop2 Inv-loop μ-loop Inv-found μ-found
 loop3-holds c =
@@ -109,37 +100,29 @@ loop3-holds c =
           (ap (λ (m : ℕ). has m i) (sym (c .before .lasts .ensures)) ∙ first-least 32 _ i (omega (arith, c .first322 .ensures)))),
     )
 
--- src/lib.rt:93:28
 has32-requires-2 :
     tie.Need-has32-requires-2 Inv-loop3 μ-loop3 Inv-loop2 μ-loop2 Inv-loop μ-loop Inv-found μ-found
 has32-requires-2 c κs = search needs
 
--- src/lib.rt:94:58
 add-t17 : tie.Need-add-t17 Inv-loop3 μ-loop3 Inv-loop2 μ-loop2 Inv-loop μ-loop Inv-found μ-found
 add-t17 c = search needs
 
--- src/lib.rt:94:68
 add-t18 : tie.Need-add-t18 Inv-loop3 μ-loop3 Inv-loop2 μ-loop2 Inv-loop μ-loop Inv-found μ-found
 add-t18 c = search needs
 
--- src/lib.rt:94:78
 add-t19 : tie.Need-add-t19 Inv-loop3 μ-loop3 Inv-loop2 μ-loop2 Inv-loop μ-loop Inv-found μ-found
 add-t19 c = search needs
 
--- src/lib.rt:94:88
 add-t20 : tie.Need-add-t20 Inv-loop3 μ-loop3 Inv-loop2 μ-loop2 Inv-loop μ-loop Inv-found μ-found
 add-t20 c = search needs
 
--- src/lib.rt:92:25
 add-d : tie.Need-add-d Inv-loop3 μ-loop3 Inv-loop2 μ-loop2 Inv-loop μ-loop Inv-found μ-found
 add-d c = search needs
 
--- src/lib.rt:92:21
 loop3-less :
     tie.Need-loop3-less Inv-loop3 μ-loop3 Inv-loop2 μ-loop2 Inv-loop μ-loop Inv-found μ-found
 loop3-less c = search needs
 
--- src/lib.rt:92:21
 loop3-again :
     tie.Need-loop3-again Inv-loop3 μ-loop3 Inv-loop2 μ-loop2 Inv-loop μ-loop Inv-found μ-found
 loop3-again c =
@@ -151,16 +134,13 @@ loop3-again c =
           (c .before .before .before .loop3 .inv .1),
     )
 
--- src/lib.rt:89:17
 add-c : tie.Need-add-c Inv-loop3 μ-loop3 Inv-loop2 μ-loop2 Inv-loop μ-loop Inv-found μ-found
 add-c c = search needs
 
--- src/lib.rt:89:13
 loop2-less :
     tie.Need-loop2-less Inv-loop3 μ-loop3 Inv-loop2 μ-loop2 Inv-loop μ-loop Inv-found μ-found
 loop2-less c = search needs
 
--- src/lib.rt:89:13
 loop2-again :
     tie.Need-loop2-again Inv-loop3 μ-loop3 Inv-loop2 μ-loop2 Inv-loop μ-loop Inv-found μ-found
 loop2-again c =
@@ -176,39 +156,31 @@ loop2-again c =
           (l .inv .1),
     )
 
--- src/lib.rt:87:13
 add-b : tie.Need-add-b Inv-loop3 μ-loop3 Inv-loop2 μ-loop2 Inv-loop μ-loop Inv-found μ-found
 add-b c = search needs
 
--- src/lib.rt:87:9
 loop-less :
     tie.Need-loop-less Inv-loop3 μ-loop3 Inv-loop2 μ-loop2 Inv-loop μ-loop Inv-found μ-found
 loop-less c = search needs
 
--- src/lib.rt:87:9
 loop-again :
     tie.Need-loop-again Inv-loop3 μ-loop3 Inv-loop2 μ-loop2 Inv-loop μ-loop Inv-found μ-found
 loop-again c = (c .before .loop2 .inv .0, passed-more _ _ _ (c .before .before .before .before .loop-test .taken) (passed-all _ _ _ (c .loop2-test .left) (c .before .loop2 .inv .1)) (c .before .before .before .before .before .loop .inv .1))
 
--- src/lib.rt:86:17
 add-a : tie.Need-add-a Inv-loop3 μ-loop3 Inv-loop2 μ-loop2 Inv-loop μ-loop Inv-found μ-found
 add-a c = search needs
 
--- src/lib.rt:86:5
 found-less :
     tie.Need-found-less Inv-loop3 μ-loop3 Inv-loop2 μ-loop2 Inv-loop μ-loop Inv-found μ-found
 found-less c = search needs
 
--- src/lib.rt:86:5
 found-again :
     tie.Need-found-again Inv-loop3 μ-loop3 Inv-loop2 μ-loop2 Inv-loop μ-loop Inv-found μ-found
 found-again c = (c .before .loop .inv .0, passed-more _ _ _ (c .before .before .found-test .taken) (passed-all _ _ _ (c .loop-test .left) (c .before .loop .inv .1)) (c .before .before .before .found .inv .1))
 
--- src/lib.rt:81:1
 returns : tie.Need-returns Inv-loop3 μ-loop3 Inv-loop2 μ-loop2 Inv-loop μ-loop Inv-found μ-found
 returns c = ap found (c .before .found .inv .0) ∙ sym (passed-all _ _ _ (c .found-test .left) (c .before .found .inv .1))
 
--- src/lib.rt:81:1
 returns-2 :
     tie.Need-returns-2 Inv-loop3 μ-loop3 Inv-loop2 μ-loop2 Inv-loop μ-loop Inv-found μ-found
 returns-2 c =

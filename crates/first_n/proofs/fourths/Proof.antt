@@ -12,19 +12,15 @@ use Rattle.first_n.proofs.later.Reads as later-reads
 use Rattle.first_n.proofs.related.Reads as related-reads
 use Rattle.sets.proofs.without32.Reads as without32-reads
 
--- src/lib.rt:48:9
 later-requires : tie.Need-later-requires
 later-requires c κs = search needs
 
--- src/lib.rt:49:9
 related-requires : tie.Need-related-requires
 related-requires c κs = search needs
 
--- src/lib.rt:50:5
 without32-requires : tie.Need-without32-requires
 without32-requires c κs = search needs
 
--- src/lib.rt:44:1
 returns : tie.Need-returns
 unfolding fourths
 returns c = c .without32 .ensures ∙ ap₂ without (c .before .before .later .ensures) (c .before .related .ensures)

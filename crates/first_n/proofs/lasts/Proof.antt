@@ -12,19 +12,15 @@ use Rattle.first_n.proofs.fourths.Reads as fourths-reads
 use Rattle.first_n.proofs.related.Reads as related-reads
 use Rattle.sets.proofs.without32.Reads as without32-reads
 
--- src/lib.rt:75:9
 fourths-requires : tie.Need-fourths-requires
 fourths-requires c κs = search needs
 
--- src/lib.rt:76:9
 related-requires : tie.Need-related-requires
 related-requires c κs = search needs
 
--- src/lib.rt:77:5
 without32-requires : tie.Need-without32-requires
 without32-requires c κs = search needs
 
--- src/lib.rt:71:1
 returns : tie.Need-returns
 unfolding lasts
 returns c = c .without32 .ensures ∙ ap₂ without (c .before .before .fourths .ensures) (c .before .related .ensures)

@@ -6,27 +6,21 @@ use Rattle.first_n.proofs.later.Reads as reads
 use Rattle.first_n.proofs.later.Lts as lts
 use Rattle.sets.proofs.without32.Reads as without32-reads
 
--- src/lib.rt:38:17
 mul-after : tie.Need-mul-after
 mul-after c = search needs
 
--- src/lib.rt:38:17
 element-copy-out-after : tie.Need-element-copy-out-after
 element-copy-out-after c = search needs
 
--- src/lib.rt:39:18
 mul-before : tie.Need-mul-before
 mul-before c = search needs
 
--- src/lib.rt:39:18
 element-copy-out-before : tie.Need-element-copy-out-before
 element-copy-out-before c = search needs
 
--- src/lib.rt:40:5
 without32-requires : tie.Need-without32-requires
 without32-requires c κs = search needs
 
--- src/lib.rt:34:1
 returns : tie.Need-returns
 unfolding later
 returns c = c .without32 .ensures

@@ -5,23 +5,18 @@ use Rattle.first_n.proofs.related.Tie as tie
 use Rattle.first_n.proofs.related.Reads as reads
 use Rattle.first_n.proofs.related.Lts as lts
 
--- src/lib.rt:28:17
 mul-after : tie.Need-mul-after
 mul-after c = search needs
 
--- src/lib.rt:28:17
 element-copy-out-after : tie.Need-element-copy-out-after
 element-copy-out-after c = search needs
 
--- src/lib.rt:29:18
 mul-before : tie.Need-mul-before
 mul-before c = search needs
 
--- src/lib.rt:29:18
 element-copy-out-before : tie.Need-element-copy-out-before
 element-copy-out-before c = search needs
 
--- src/lib.rt:24:1
 returns : tie.Need-returns
 unfolding related
 returns c = search needs

@@ -15,23 +15,18 @@ use Rattle.first_n.proofs.related.Reads as related-reads
 use Rattle.sets.proofs.has32.Reads as has32-reads
 use Rattle.sets.proofs.meet32.Reads as meet32-reads
 
--- src/lib.rt:58:9
 related-requires : tie.Need-related-requires
 related-requires c κs = search needs
 
--- src/lib.rt:59:8
 has32-requires : tie.Need-has32-requires
 has32-requires c κs = search needs
 
--- src/lib.rt:60:9
 returns : tie.Need-returns
 returns c = thirds-related _ _ _ _ (sym (ap (λ (m : ℕ). has m (c .before .before .before .args .b)) (c .before .before .related .ensures)) ∙ sym (c .before .has32 .ensures) ∙ c .if1 .taken)
 
--- src/lib.rt:62:8
 fourths-requires : tie.Need-fourths-requires
 fourths-requires c κs = search needs
 
--- src/lib.rt:63:9
 returns-2 : tie.Need-returns-2
 returns-2 c =
     let b = c .before .before in
@@ -39,19 +34,15 @@ returns-2 c =
     (sym (ap (λ (m : ℕ). has m (b .before .before .before .args .b)) (b .before .before .related .ensures)) ∙ sym (b .before .has32 .ensures) ∙ b .if1 .left)
     (sym (c .before .fourths .ensures) ∙ c .if2 .taken)
 
--- src/lib.rt:65:9
 later-requires : tie.Need-later-requires
 later-requires c κs = search needs
 
--- src/lib.rt:66:9
 later-requires-2 : tie.Need-later-requires-2
 later-requires-2 c κs = search needs
 
--- src/lib.rt:67:5
 meet32-requires : tie.Need-meet32-requires
 meet32-requires c κs = search needs
 
--- src/lib.rt:54:1
 returns-3 : tie.Need-returns-3
 returns-3 c =
     let d = c .before .before in

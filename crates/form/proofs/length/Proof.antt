@@ -19,31 +19,24 @@ use Rattle.record.proofs.read.Reads as read-reads
 fine : (c : tie.After-enum-told) → reading (c .before .before .before .before .args .b .now) ≡ Fine
 fine c = sym (c .before .before .read .ensures) ∙ c .enum-told .given .1
 
--- src/lib.rt:114:9
 read-requires : tie.Need-read-requires
 read-requires c κs = search needs
 
--- src/lib.rt:116:26
 enum-known-s : tie.Need-enum-known-s
 enum-known-s c = search needs
 
--- src/lib.rt:118:17
 enum-told : tie.Need-enum-told
 enum-told c = search needs
 
--- src/lib.rt:118:17
 closed-requires : tie.Need-closed-requires
 closed-requires c κs = goals-to _ (fine c)
 
--- src/lib.rt:120:13
 length-rows-requires : tie.Need-length-rows-requires
 length-rows-requires c κs = graph-asks _ (fine (c .before .before .before)) _ (c .before .before .closed .ensures)
 
--- src/lib.rt:111:1
 returns : tie.Need-returns
 returns c = estimated-refused _ _ _ (plan-refused _ _ (sym (c .before .before .before .read .ensures) ∙ c .before .s .given .1))
 
--- src/lib.rt:111:1
 returns-2 : tie.Need-returns-2
 returns-2 c =
     subst (λ (p : Plan). Estimated p (estimate (c .length-rows .result))) (graph-plan _ (fine (c .before .before .before .before)) _ (c .before .before .before .closed .ensures)) (c .length-rows .ensures)

@@ -48,39 +48,30 @@ short c =
     let s = c .before .before .before .before .before .before in
     text-short _ _ _ _ (s .pre .0) (s .pre .1) (s .pre .2) (none-first c) (c .before .before .before .before .before .transposed .ensures) (c .below32 .ensures)
 
--- src/lib.rt:69:17
 transposed-requires : tie.Need-transposed-requires
 transposed-requires c κs = search needs
 
--- src/lib.rt:70:9
 first-n-requires : tie.Need-first-n-requires
 first-n-requires c κs = search needs
 
--- src/lib.rt:72:19
 enum-known-found : tie.Need-enum-known-found
 enum-known-found c = search needs
 
--- src/lib.rt:74:17
 enum-told : tie.Need-enum-told
 enum-told c = search needs
 
--- src/lib.rt:74:17
 below32-requires : tie.Need-below32-requires
 below32-requires c κs = search needs
 
--- src/lib.rt:76:40
 slice-aggregate-put-form : tie.Need-slice-aggregate-put-form
 slice-aggregate-put-form c = search needs
 
--- src/lib.rt:76:17
 put-form-requires : tie.Need-put-form-requires
 put-form-requires c κs = asks (c .before .before)
 
--- src/lib.rt:62:1
 returns : tie.Need-returns
 returns c = estimated-none _ _ (settled-some _ _ (sym (c .before .before .before .first-n .ensures) ∙ ap found (c .before .found .given .1)))
 
--- src/lib.rt:62:1
 returns-2 : tie.Need-returns-2
 returns-2 c =
     let d = c .before .before .before .before in

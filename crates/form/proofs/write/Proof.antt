@@ -19,37 +19,29 @@ use Rattle.record.proofs.read.Reads as read-reads
 fine : (c : tie.After-enum-told) → reading (c .before .before .before .before .before .args .b .now) ≡ Fine
 fine c = sym (c .before .before .read .ensures) ∙ c .enum-told .given .1
 
--- src/lib.rt:99:9
 read-requires : tie.Need-read-requires
 read-requires c κs = search needs
 
--- src/lib.rt:101:26
 enum-known-s : tie.Need-enum-known-s
 enum-known-s c = search needs
 
--- src/lib.rt:103:17
 enum-told : tie.Need-enum-told
 enum-told c = search needs
 
--- src/lib.rt:103:17
 closed-requires : tie.Need-closed-requires
 closed-requires c κs = goals-to _ (fine c)
 
--- src/lib.rt:105:13
 write-rows-requires : tie.Need-write-rows-requires
 write-rows-requires c κs = graph-asks _ (fine (c .before .before .before .before)) _ (c .before .before .before .closed .ensures)
 
--- src/lib.rt:95:1
 returns : tie.Need-returns
 returns c =
     let e = plan-refused _ _ (sym (c .before .before .before .read .ensures) ∙ c .before .s .given .1) in
     (refused-answer _ _ _ _ e, refused-buffer _ _ _ _ e)
 
--- src/lib.rt:95:1
 same-length : tie.Need-same-length
 same-length c = search needs
 
--- src/lib.rt:95:1
 returns-2 : tie.Need-returns-2
 returns-2 c =
     let e = graph-plan _ (fine (c .before .before .before .before .before .before .before)) _ (c .before .before .before .before .before .before .closed .ensures) in

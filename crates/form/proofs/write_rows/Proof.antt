@@ -48,35 +48,27 @@ short c =
     let s = c .before .before .before .before .before .before .before in
     text-short _ _ _ _ (s .pre .0) (s .pre .1) (s .pre .2) (none-first c) (c .before .before .before .before .before .transposed .ensures) (c .below32 .ensures)
 
--- src/lib.rt:44:17
 transposed-requires : tie.Need-transposed-requires
 transposed-requires c κs = search needs
 
--- src/lib.rt:45:9
 first-n-requires : tie.Need-first-n-requires
 first-n-requires c κs = search needs
 
--- src/lib.rt:47:19
 enum-known-found : tie.Need-enum-known-found
 enum-known-found c = search needs
 
--- src/lib.rt:49:17
 enum-told : tie.Need-enum-told
 enum-told c = search needs
 
--- src/lib.rt:49:17
 below32-requires : tie.Need-below32-requires
 below32-requires c κs = search needs
 
--- src/lib.rt:51:40
 slice-aggregate-put-form : tie.Need-slice-aggregate-put-form
 slice-aggregate-put-form c = search needs
 
--- src/lib.rt:51:17
 put-form-requires : tie.Need-put-form-requires
 put-form-requires c κs = asks (c .before .before)
 
--- src/lib.rt:53:17
 returns : tie.Need-returns
 returns c =
     let d = c .before .before .before .before .before in
@@ -85,21 +77,17 @@ returns c =
     let need : c .before .before .put-form .result ≡ length (text (formAny (ahead (d .before .before .before .before .before .before .before .args .rows .now)) (d .before .before .before .before .before .before .before .args .n))) = omega (arith, place, ap length (the-text d)) in
     (short-answer _ _ _ e _ need (c .if1 .taken), short-buffer _ _ _ e (omega (arith, need, c .if1 .taken)))
 
--- src/lib.rt:55:13
 put-form-requires-2 : tie.Need-put-form-requires-2
 put-form-requires-2 c κs = asks (c .before .before .before .before .before .before .before)
 
--- src/lib.rt:31:1
 returns-2 : tie.Need-returns-2
 returns-2 c =
     let e = settled-some _ _ (sym (c .before .before .before .first-n .ensures) ∙ ap found (c .before .found .given .1)) in
     (none-answer _ _ _ e, none-buffer _ _ _ e)
 
--- src/lib.rt:31:1
 same-length : tie.Need-same-length
 same-length c = search needs
 
--- src/lib.rt:31:1
 returns-3 : tie.Need-returns-3
 returns-3 c =
     let d = c .before .before .before .before .before .before .before .before .before .before in

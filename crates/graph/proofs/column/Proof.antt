@@ -20,39 +20,30 @@ Inv-loop rows n j set₀ i₀ set i = (i ≤ n) × (set ≡ column rows i j)
 abbrev μ-loop : tie.MeasureT-loop
 μ-loop rows n j set₀ i₀ set i = n - i
 
--- src/lib.rt:51:5
 loop-holds : tie.Need-loop-holds Inv-loop μ-loop
 loop-holds c = (search needs, column-none _ _)
 
--- src/lib.rt:52:19
 mul-row : tie.Need-mul-row Inv-loop μ-loop
 mul-row c = search needs
 
--- src/lib.rt:52:19
 element-copy-out-row : tie.Need-element-copy-out-row Inv-loop μ-loop
 element-copy-out-row c = search needs
 
--- src/lib.rt:53:12
 has32-requires : tie.Need-has32-requires Inv-loop μ-loop
 has32-requires c κs = search needs
 
--- src/lib.rt:54:17
 single32-requires : tie.Need-single32-requires Inv-loop μ-loop
 single32-requires c κs = search needs
 
--- src/lib.rt:55:13
 union32-requires : tie.Need-union32-requires Inv-loop μ-loop
 union32-requires c κs = search needs
 
--- src/lib.rt:51:9
 add-i : tie.Need-add-i Inv-loop μ-loop
 add-i c = search needs
 
--- src/lib.rt:51:5
 loop-less : tie.Need-loop-less Inv-loop μ-loop
 loop-less c = search needs
 
--- src/lib.rt:51:5
 loop-again : tie.Need-loop-again Inv-loop μ-loop
 loop-again c =
     let l = c .before .before .before .before .loop in
@@ -62,7 +53,6 @@ loop-again c =
           (λ w. w .1 ∙ l .inv .1 ∙ sym (column-out _ _ _ (has ∙ w .0 .left))) (c .if1 .came),
     )
 
--- src/lib.rt:46:1
 returns : tie.Need-returns Inv-loop μ-loop
 returns c =
     let e : c .before .loop .i ≡ c .before .before .args .n = omega arith in

@@ -18,37 +18,29 @@ Inv-loop rows n prior₀ j₀ prior j = (j ≤ n) × (prior ≡ table 32 j (λ i
 abbrev μ-loop : tie.MeasureT-loop
 μ-loop rows n prior₀ j₀ prior j = n - j
 
--- src/lib.rt:67:5
 loop-holds : tie.Need-loop-holds Inv-loop μ-loop
 loop-holds c = (search needs, table-zero 32 _)
 
--- src/lib.rt:68:20
 column-requires : tie.Need-column-requires Inv-loop μ-loop
 column-requires c κs = search needs
 
--- src/lib.rt:68:9
 mul-prior : tie.Need-mul-prior Inv-loop μ-loop
 mul-prior c = search needs
 
--- src/lib.rt:68:9
 array-write-prior : tie.Need-array-write-prior Inv-loop μ-loop
 array-write-prior c = search needs
 
--- src/lib.rt:67:9
 add-j : tie.Need-add-j Inv-loop μ-loop
 add-j c = search needs
 
--- src/lib.rt:67:5
 loop-less : tie.Need-loop-less Inv-loop μ-loop
 loop-less c = search needs
 
--- src/lib.rt:67:5
 loop-again : tie.Need-loop-again Inv-loop μ-loop
 loop-again c =
     let l = c .before .before .loop in
     (search needs, table-more 32 _ _ _ _ (omega arith) (l .inv .1) (c .column .ensures))
 
--- src/lib.rt:62:1
 returns : tie.Need-returns Inv-loop μ-loop
 returns c =
     let e : c .before .loop .j ≡ c .before .before .args .n = omega arith in

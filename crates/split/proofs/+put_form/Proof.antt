@@ -116,31 +116,24 @@ a-step t c =
     let f = c .before .start .ensures in
     step _ _ _ _ _ l r (s .pre .1 .0) (j .0) (j .1) (j .2) (c .before .before .before .loop .inv) _ _ (f .1) (f .2) (c .component2 .ensures)
 
--- src/lib.rt:84:9
 put-form-first32-requires : (t : ℕ) → put-form-lts.Need-first32-requires (put-form-K t) (put-form-at t) put-form.Post put-form-Inv-loop put-form-μ-loop
 put-form-first32-requires t c κs = search needs
 
--- src/lib.rt:85:8
 put-form-single32-requires : (t : ℕ) → put-form-lts.Need-single32-requires (put-form-K t) (put-form-at t) put-form.Post put-form-Inv-loop put-form-μ-loop
 put-form-single32-requires t c κs = under t c
 
--- src/lib.rt:86:43
 put-form-add-put-number : (t : ℕ) → put-form-lts.Need-add-put-number (put-form-K t) (put-form-at t) put-form.Post put-form-Inv-loop put-form-μ-loop
 put-form-add-put-number t c = let u : c .before .before .before .first32 .result < 32 = under t (c .before .before .before) in search needs
 
--- src/lib.rt:86:42
 put-form-cast-put-number : (t : ℕ) → put-form-lts.Need-cast-put-number (put-form-K t) (put-form-at t) put-form.Post put-form-Inv-loop put-form-μ-loop
 put-form-cast-put-number t c = let u : c .before .before .before .first32 .result < 32 = under t (c .before .before .before) in search needs
 
--- src/lib.rt:86:9
 put-form-put-number-requires : (t : ℕ) → put-form-lts.Need-put-number-requires (put-form-K t) (put-form-at t) put-form.Post put-form-Inv-loop put-form-μ-loop
 put-form-put-number-requires t c κs = (omega (arith, under t (c .before .before .before)), omega (arith, c .before .before .before .before .before .pre .1 .1))
 
--- src/lib.rt:86:9
 put-form-same-length : (t : ℕ) → put-form-lts.Need-same-length (put-form-K t) (put-form-at t) put-form.Post put-form-Inv-loop put-form-μ-loop
 put-form-same-length t c = search needs
 
--- src/lib.rt:86:9
 put-form-returns : (t : ℕ) → put-form-lts.Need-returns (put-form-K t) (put-form-at t) put-form.Post put-form-Inv-loop put-form-μ-loop
 put-form-returns t c =
     let s = c .before .before .before .before .before .before .before .before in
@@ -150,19 +143,15 @@ put-form-returns t c =
     let e : suc (first 32 (s .args .set)) ≡ c .before .before .before .before .before .before .first32 .result + 1 = omega (arith, fi) in
     recast (text-goal (s .args .after .now) (s .args .set) (s .args .nested) _ (f ∙ ap goal e)) (c .before .before .put-number .ensures)
 
--- src/lib.rt:88:13
 put-form-component-requires : (t : ℕ) → put-form-lts.Need-component-requires (put-form-K t) (put-form-at t) put-form.Post put-form-Inv-loop put-form-μ-loop
 put-form-component-requires t c κs = (under t (c .before .before), low-has t (c .before .before), c .before .before .before .before .pre .1 .0 .turned)
 
--- src/lib.rt:89:9
 put-form-mark-requires : (t : ℕ) → put-form-lts.Need-mark-requires (put-form-K t) (put-form-at t) put-form.Post put-form-Inv-loop put-form-μ-loop
 put-form-mark-requires t c κs = search needs
 
--- src/lib.rt:90:9
 put-form-put-if-requires : (t : ℕ) → put-form-lts.Need-put-if-requires (put-form-K t) (put-form-at t) put-form.Post put-form-Inv-loop put-form-μ-loop
 put-form-put-if-requires t c κs = search needs
 
--- src/lib.rt:93:5
 put-form-loop-holds : (t : ℕ) → put-form-lts.Need-loop-holds (put-form-K t) (put-form-at t) put-form.Post put-form-Inv-loop put-form-μ-loop
 put-form-loop-holds t c =
     let s = c .before .before .before .before .before .before .before .before .before .before in
@@ -170,19 +159,15 @@ put-form-loop-holds t c =
     let j = joins t (c .before .before .before .before .before) in
     go-start _ (s .args .prior .now) _ _ _ (j .0) (j .1) (j .2) (form-of _ (s .args .prior .now) _ l (s .pre .1 .0)) _ _
 
--- src/lib.rt:94:13
 put-form-start-requires : (t : ℕ) → put-form-lts.Need-start-requires (put-form-K t) (put-form-at t) put-form.Post put-form-Inv-loop put-form-μ-loop
 put-form-start-requires t c κs = (ordered-behind _ _ (rest-ordered t c), rest-some t c)
 
--- src/lib.rt:95:13
 put-form-component-requires-2 : (t : ℕ) → put-form-lts.Need-component-requires-2 (put-form-K t) (put-form-at t) put-form.Post put-form-Inv-loop put-form-μ-loop
 put-form-component-requires-2 t c κs = (c .start .ensures .0, c .start .ensures .1, rest-ordered t (c .before) .turned)
 
--- src/lib.rt:96:9
 put-form-put-if-requires-2 : (t : ℕ) → put-form-lts.Need-put-if-requires-2 (put-form-K t) (put-form-at t) put-form.Post put-form-Inv-loop put-form-μ-loop
 put-form-put-if-requires-2 t c κs = omega (arith, a-step t (c .before) .room, bound t (c .before .before .before .before .before))
 
--- src/lib.rt:97:9
 put-form-put-form-requires : (t : ℕ) → put-form-lts.Need-put-form-requires (put-form-K t) (put-form-at t) put-form.Post put-form-Inv-loop put-form-μ-loop
 put-form-put-form-requires t c κs =
     let w = a-step t (c .before .before .before .before .before) in
@@ -192,26 +177,21 @@ put-form-put-form-requires t c κs =
       (w .ordered, omega (arith, w .room, bound t (c .before .before .before .before .before .before .before .before .before), p, ap (λ (z : ℕ). length (only (c .before .before .before .before .before .before .before .before .loop .more) z)) m)),
     )
 
--- src/lib.rt:98:9
 put-form-without32-requires : (t : ℕ) → put-form-lts.Need-without32-requires (put-form-K t) (put-form-at t) put-form.Post put-form-Inv-loop put-form-μ-loop
 put-form-without32-requires t c κs = search needs
 
--- src/lib.rt:93:5
 put-form-loop-less : (t : ℕ) → put-form-lts.Need-loop-less (put-form-K t) (put-form-at t) put-form.Post put-form-Inv-loop put-form-μ-loop
 put-form-loop-less t c = subst (λ (z : ℕ). count z < count (c .before .before .before .before .before .before .before .before .before .before .before .before .loop .rest)) (sym (c .without32 .ensures)) (a-step t (c .before .before .before .before .before .before .before .before .before) .less)
 
--- src/lib.rt:93:5
 put-form-loop-again : (t : ℕ) → put-form-lts.Need-loop-again (put-form-K t) (put-form-at t) put-form.Post put-form-Inv-loop put-form-μ-loop
 put-form-loop-again t c =
     let w = a-step t (c .before .before .before .before .before .before .before .before .before) in
     let m = c .before .before .before .before .before .before .before .before .before .before .before .before .before .before .before .before .before .mark .ensures in
     w .on (recast (ap (only (c .before .before .before .before .before .before .before .before .before .before .before .before .loop .more)) m) (c .before .before .before .before .before .before .before .put-if2 .ensures)) (c .before .before .before .put-form .ensures) (c .without32 .ensures)
 
--- src/lib.rt:101:5
 put-form-put-if-requires-3 : (t : ℕ) → put-form-lts.Need-put-if-requires-3 (put-form-K t) (put-form-at t) put-form.Post put-form-Inv-loop put-form-μ-loop
 put-form-put-if-requires-3 t c κs = omega (arith, c .before .before .loop .inv .wrote .place, bound t (c .before .before .before))
 
--- src/lib.rt:80:1
 put-form-returns-2 : (t : ℕ) → put-form-lts.Need-returns-2 (put-form-K t) (put-form-at t) put-form.Post put-form-Inv-loop put-form-μ-loop
 put-form-returns-2 t c =
     let s = c .before .before .before .before .before .before .before .before .before .before .before .before .before .before .before .before in
@@ -219,7 +199,6 @@ put-form-returns-2 t c =
     recast (text-join _ _ _ _ (j .0) (j .1) (j .2))
     (then (c .before .before .before .before .before .before .before .before .put-if .ensures) (go-end _ (s .args .prior .now) _ _ _ (c .before .before .before .before .before .loop .inv) (c .before .before .before .before .loop-test .left) (c .before .before .put-if3 .ensures)))
 
--- src/lib.rt:80:1
 put-form-same-length-2 : (t : ℕ) → put-form-lts.Need-same-length-2 (put-form-K t) (put-form-at t) put-form.Post put-form-Inv-loop put-form-μ-loop
 put-form-same-length-2 t c = kept (put-form-returns-2 t c)
 

@@ -13,6 +13,7 @@ use Rattle.sets.proofs.single32.Reads as single32-reads
 use Rattle.sets.proofs.union32.Reads as union32-reads
 use Rattle.sets.proofs.without32.Reads as without32-reads
 use Rattle.split.proofs.hanging.Reads as hanging-reads
+use Rattle.split.proofs.pending.Reads as pending-reads
 
 abbrev Inv-loop : tie.InvT-loop
 Inv-loop after prior k set x todo₀ left₀ todo left = Growing after k set x left todo
@@ -20,72 +21,62 @@ Inv-loop after prior k set x todo₀ left₀ todo left = Growing after k set x l
 abbrev μ-loop : tie.MeasureT-loop
 μ-loop after prior k set x todo₀ left₀ todo left = count (union left todo)
 
-facts : (c : tie.After-union32 Inv-loop μ-loop) →
-    let a = c .before .before .before .before .before .before .before .before .before .before .args in
-    let l = c .before .before .before .before .before .before .before .loop in
-    Growing (a .after .now) (a .k) (a .set) (a .x) (c .before .before .before .without322 .result) (c .union32 .result)
-    × (count (union (c .before .before .before .without322 .result) (c .union32 .result)) < count (union (l .left) (l .todo)))
+facts : (c : tie.After-pending Inv-loop μ-loop) →
+    let a = c .before .before .before .before .before .before .before .before .before .before .before .args in
+    let l = c .before .before .before .before .before .before .before .before .loop in
+    Growing (a .after .now) (a .k) (a .set) (a .x) (c .before .before .before .before .without322 .result) (c .pending .result)
+    × (count (union (c .before .before .before .before .without322 .result) (c .pending .result)) < count (union (l .left) (l .todo)))
 facts c =
-    let s = c .before .before .before .before .before .before .before .before .before .before in
+    let s = c .before .before .before .before .before .before .before .before .before .before .before in
     let l : s .args .set < 2 ^ 32 = search needs in
-    grow-step _ _ _ _ (s .pre .2) _ (c .before .before .before .before .before .before .before .loop .inv) l (c .before .before .before .before .before .before .loop-test .taken) (c .before .before .before .before .before .first32 .ensures) (c .before .before .before .before .hanging .ensures) (c .before .before .before .without322 .ensures)
-    (c .before .before .single322 .ensures) (c .before .without323 .ensures) (c .union32 .ensures)
+    grow-step _ _ _ _ (s .pre .2) _ (c .before .before .before .before .before .before .before .before .loop .inv) l (c .before .before .before .before .before .before .before .loop-test .taken) (c .before .before .before .before .before .before .first32 .ensures) (c .before .before .before .before .before .hanging .ensures) (c .before .before .before .before .without322 .ensures)
+    (c .before .before .before .single322 .ensures) (c .before .before .without323 .ensures) (c .before .union32 .ensures) (c .pending .ensures)
 
--- src/lib.rt:36:9
 single32-requires : tie.Need-single32-requires Inv-loop μ-loop
 single32-requires c κs = search needs
 
--- src/lib.rt:37:9
 without32-requires : tie.Need-without32-requires Inv-loop μ-loop
 without32-requires c κs = search needs
 
--- src/lib.rt:38:5
 loop-holds : tie.Need-loop-holds Inv-loop μ-loop
 loop-holds c = grow-begin _ _ _ _ (c .before .before .pre .2) _ (c .before .before .pre .1) (c .before .single32 .ensures) (c .without32 .ensures)
 
--- src/lib.rt:39:13
 first32-requires : tie.Need-first32-requires Inv-loop μ-loop
 first32-requires c κs = search needs
 
--- src/lib.rt:40:13
 hanging-requires : tie.Need-hanging-requires Inv-loop μ-loop
 hanging-requires c κs =
     let s = c .before .before .before .before .before in
     let l : s .args .set < 2 ^ 32 = search needs in
     omega (arith, c .first32 .ensures, pick-under _ _ _ _ (s .pre .2) _ (c .before .before .loop .inv) l (c .before .loop-test .taken))
 
--- src/lib.rt:41:9
 without32-requires-2 : tie.Need-without32-requires-2 Inv-loop μ-loop
 without32-requires-2 c κs = search needs
 
--- src/lib.rt:42:13
 single32-requires-2 : tie.Need-single32-requires-2 Inv-loop μ-loop
 single32-requires-2 c κs =
     let s = c .before .before .before .before .before .before .before in
     let l : s .args .set < 2 ^ 32 = search needs in
     omega (arith, c .before .before .first32 .ensures, pick-under _ _ _ _ (s .pre .2) _ (c .before .before .before .before .loop .inv) l (c .before .before .before .loop-test .taken))
 
--- src/lib.rt:43:13
 without32-requires-3 : tie.Need-without32-requires-3 Inv-loop μ-loop
 without32-requires-3 c κs = search needs
 
--- src/lib.rt:44:9
 union32-requires : tie.Need-union32-requires Inv-loop μ-loop
 union32-requires c κs = search needs
 
--- src/lib.rt:38:5
+pending-requires : tie.Need-pending-requires Inv-loop μ-loop
+pending-requires c κs = search needs
+
 loop-less : tie.Need-loop-less Inv-loop μ-loop
 loop-less c = facts c .1
 
--- src/lib.rt:38:5
 loop-again : tie.Need-loop-again Inv-loop μ-loop
 loop-again c = facts c .0
 
--- src/lib.rt:46:5
 without32-requires-4 : tie.Need-without32-requires-4 Inv-loop μ-loop
 without32-requires-4 c κs = search needs
 
--- src/lib.rt:32:1
 returns : tie.Need-returns Inv-loop μ-loop
 returns c = grow-done _ _ _ _ (c .before .before .before .before .before .pre .2) _ (c .before .before .before .before .before .pre .1) (c .before .before .loop .inv) (c .before .loop-test .left) (c .without324 .ensures)
 
@@ -104,6 +95,7 @@ component-spec =
     single32-requires-2
     without32-requires-3
     union32-requires
+    pending-requires
     loop-less
     loop-again
     without32-requires-4

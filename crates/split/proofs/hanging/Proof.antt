@@ -8,35 +8,27 @@ use Rattle.split.proofs.hanging.Lts as lts
 use Rattle.sets.proofs.meet32.Reads as meet32-reads
 use Rattle.sets.proofs.without32.Reads as without32-reads
 
--- src/lib.rt:20:17
 mul-later : tie.Need-mul-later
 mul-later c = search needs
 
--- src/lib.rt:20:17
 element-copy-out-later : tie.Need-element-copy-out-later
 element-copy-out-later c = search needs
 
--- src/lib.rt:21:18
 mul-before : tie.Need-mul-before
 mul-before c = search needs
 
--- src/lib.rt:21:18
 element-copy-out-before : tie.Need-element-copy-out-before
 element-copy-out-before c = search needs
 
--- src/lib.rt:24:9
 without32-requires : tie.Need-without32-requires
 without32-requires c κs = search needs
 
--- src/lib.rt:26:9
 meet32-requires : tie.Need-meet32-requires
 meet32-requires c κs = search needs
 
--- src/lib.rt:16:1
 returns : tie.Need-returns
 returns c = c .without32 .ensures ∙ hanging-sequence _ _ _ _ _ (c .before .if1 .taken)
 
--- src/lib.rt:16:1
 returns-2 : tie.Need-returns-2
 returns-2 c = c .meet32 .ensures ∙ hanging-group _ _ _ _ _ (c .before .if1 .left)
 

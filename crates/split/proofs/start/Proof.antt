@@ -26,42 +26,34 @@ facts c =
     let l : s .args .rest < 2 ^ 32 = search needs in
     try-step _ _ _ l (s .pre .0) (c .before .before .before .loop .inv) (c .before .before .loop-test .taken) (c .before .first322 .ensures) (c .earlier2 .ensures)
 
--- src/lib.rt:63:9
 first32-requires : tie.Need-first32-requires Inv-loop μ-loop
 first32-requires c κs = search needs
 
--- src/lib.rt:64:9
 earlier-requires : tie.Need-earlier-requires Inv-loop μ-loop
 earlier-requires c κs =
     let l : c .before .args .rest < 2 ^ 32 = search needs in
     omega (arith, c .first32 .ensures, lowest-in 32 _ l (c .before .pre .1 .0) (c .before .pre .1 .1))
 
--- src/lib.rt:65:5
 loop-holds : tie.Need-loop-holds Inv-loop μ-loop
 loop-holds c =
     let l : c .before .before .args .rest < 2 ^ 32 = search needs in
     try-begin _ _ _ l (c .before .before .pre .1) (c .before .first32 .ensures) (c .earlier .ensures)
 
--- src/lib.rt:66:9
 first32-requires-2 : tie.Need-first32-requires-2 Inv-loop μ-loop
 first32-requires-2 c κs = search needs
 
--- src/lib.rt:67:9
 earlier-requires-2 : tie.Need-earlier-requires-2 Inv-loop μ-loop
 earlier-requires-2 c κs =
     let s = c .before .before .before .before .before in
     let l : s .args .rest < 2 ^ 32 = search needs in
     omega (arith, c .first322 .ensures, step-under _ _ _ l (s .pre .0) (c .before .before .loop .inv) (c .before .loop-test .taken))
 
--- src/lib.rt:65:5
 loop-less : tie.Need-loop-less Inv-loop μ-loop
 loop-less c = facts c .1
 
--- src/lib.rt:65:5
 loop-again : tie.Need-loop-again Inv-loop μ-loop
 loop-again c = facts c .0
 
--- src/lib.rt:59:1
 returns : tie.Need-returns Inv-loop μ-loop
 returns c =
     let l : c .before .before .before .before .args .rest < 2 ^ 32 = search needs in
