@@ -3,9 +3,11 @@ use mathlib.Core.Path.{_≡_}
 use Prim.Native.Nat.{ℕ, _+_, _*_, _/_, _%_, _^_, _≤_, _<_}
 use native.Mathlib.Omega.{arith}
 use Rattle.grammar.specs.Check.{differs}
+use Rattle.expression.specs.Search.{Four}
+use Rattle.form.specs.Form as F
 use Rattle.mel.specs.Annotation as M
 use Rattle.annotator.specs.Answers.{ReadValues, noRecord, TextValues, noText, CheckValues, noCheck, saying}
-use Rattle.lfj.specs.Words.{refusalWord, readWord, AfterValues, noGoals, afterWord, textWord, checkWord, melWord}
+use Rattle.lfj.specs.Words.{refusalWord, readWord, AfterValues, noGoals, afterWord, formWord, melWord, textWord, checkWord}
 
 -- a refusal's word gives its number and its place back
 pub word-number : (k p : ℕ) → refusalWord k p / 2 ^ 56 ≡ k
@@ -33,6 +35,10 @@ pub check-number : (v : CheckValues) → checkWord v / 2 ^ 56 ≡ v .number
 unfolding checkWord refusalWord
 check-number v = omega arith
 
+pub form-number : (v : F.Values) → v .place + v .length < 2 ^ 32 → formWord v / 2 ^ 56 ≡ v .number
+unfolding formWord refusalWord
+form-number v h = omega arith
+
 pub mel-number : (v : M.Values) → melWord v / 2 ^ 56 ≡ v .number
 unfolding melWord refusalWord
 mel-number v = omega arith
@@ -54,6 +60,10 @@ module _ (k p : ℕ) where
   pub check-refusal : checkWord (noCheck k p) ≡ refusalWord k p
   unfolding checkWord
   check-refusal = omega arith
+
+  pub form-refusal : formWord (F.refusal k p) ≡ refusalWord k p
+  unfolding formWord
+  form-refusal = omega arith
 
   pub mel-refusal : melWord (M.refused k p) ≡ refusalWord k p
   unfolding melWord
@@ -77,7 +87,7 @@ module _ (a n : ℕ) where
   unfolding textWord refusalWord
   text-length h = omega arith
 
-module _ (i j : ℕ) (is : i < 2 ^ 8) (js : j < 2 ^ 8) where
+module _ (i j : ℕ) (hi : i < 2 ^ 8) (hj : j < 2 ^ 8) where
   pub check-i : checkWord (saying (differs i j)) % 2 ^ 8 ≡ i
   unfolding checkWord refusalWord
   check-i = omega arith
@@ -89,3 +99,29 @@ module _ (i j : ℕ) (is : i < 2 ^ 8) (js : j < 2 ^ 8) where
 pub mel-length : (n : ℕ) → n < 2 ^ 32 → melWord (M.done n) ≡ n
 unfolding melWord refusalWord
 mel-length n h = omega arith
+
+pub form-length : (n : ℕ) → n < 2 ^ 32 → formWord (F.done n) ≡ n
+unfolding formWord refusalWord
+form-length n h = omega arith
+
+-- 13's place and its four goals
+module _ (q : Four) (ga : q .a < 2 ^ 6) (gb : q .b < 2 ^ 6) (gc : q .c < 2 ^ 6) (gd : q .d < 2 ^ 6) where
+  pub thirteen-place : formWord (F.thirteen q) % 2 ^ 32 ≡ 0
+  unfolding formWord refusalWord
+  thirteen-place = omega arith
+
+  pub thirteen-a : formWord (F.thirteen q) / 2 ^ 32 % 2 ^ 6 ≡ q .a
+  unfolding formWord refusalWord
+  thirteen-a = omega arith
+
+  pub thirteen-b : formWord (F.thirteen q) / 2 ^ 38 % 2 ^ 6 ≡ q .b
+  unfolding formWord refusalWord
+  thirteen-b = omega arith
+
+  pub thirteen-c : formWord (F.thirteen q) / 2 ^ 44 % 2 ^ 6 ≡ q .c
+  unfolding formWord refusalWord
+  thirteen-c = omega arith
+
+  pub thirteen-d : formWord (F.thirteen q) / 2 ^ 50 % 2 ^ 6 ≡ q .d
+  unfolding formWord refusalWord
+  thirteen-d = omega arith
