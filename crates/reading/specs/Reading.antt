@@ -1,7 +1,7 @@
 -- Reading a clause record (01, "Reading the record, which starts every operation"): one line for each sentence, in the paper's order. The first refusal wins.
 use mathlib.Core.Bool.{Bool, true, false, _&&_, cond}
 use mathlib.Core.List.{List}
-use Prim.Native.Nat.{ℕ, zero, suc, _+_, _*_}
+use Prim.Native.Nat.{ℕ, zero, suc, _+_}
 use lib.Dec.{eqb, ltb, leb}
 use lib.ListN.{length}
 use Rattle.sets.specs.Sets.{within, subset}

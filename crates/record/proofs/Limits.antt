@@ -1,19 +1,17 @@
 -- What the fields of a well-formed record give. Assumes nothing.
 use mathlib.Core.Path.{_≡_, subst}
-use mathlib.Core.Bool.{true}
 use mathlib.Core.List.{List}
 use Prim.Native.Nat.{ℕ, zero, suc, _+_, _-_, _*_, _^_, _≤_, _<_}
-use native.Mathlib.Nat.{le-of-suc-le-suc, lt-of-lt-of-le, zero-lt-suc}
+use native.Mathlib.Nat.{lt-of-lt-of-le}
 use native.Mathlib.Omega.{arith}
 use lib.ListN.{length}
 use lib.Pow.{pow-mono}
-use Rattle.sets.specs.Sets.{has}
 use Rattle.sets.proofs.Laws.{below-of, member-below}
 use Rattle.sets.proofs.Builder.{members-lt}
-use Rattle.fields.specs.Fields.{byte, goalCount, varCount, pairCount, headSet, groundSet, goalSet, textPlace, textLength, textLengthAt, placeAfter, goalPlace, pairAt}
+use Rattle.fields.specs.Fields.{byte, goalCount, varCount, pairCount, headSet, groundSet, goalSet, textPlace, textLength, textLengthAt, placeAfter, pairAt}
 use Rattle.reading.specs.declared.Reading.the-variants.{Fine}
 use Rattle.reading.specs.Reading.{reading}
-use Rattle.record.specs.WellFormed.{WellFormedGoal, WellFormedPair, WellFormed}
+use Rattle.record.specs.WellFormed.{WellFormed}
 use Rattle.record.proofs.WellFormed.{fine-well-formed}
 
 module _ (b : List ℕ) (w : WellFormed b) where

@@ -1,21 +1,20 @@
 -- Reading answers `Fine` exactly if the record is well formed. Assumes nothing.
-use mathlib.Core.Path.{_≡_, refl, sym, ap, _∙_, subst}
+use mathlib.Core.Path.{_≡_, refl, sym, _∙_, subst}
 use mathlib.Core.Logic.{⊎-elim}
-use mathlib.Core.Bool.{Bool, true, false, _&&_, cond, true≢false}
+use mathlib.Core.Bool.{true, _&&_}
 use mathlib.Core.List.{List}
-use Prim.Native.Nat.{ℕ, zero, suc, _+_, _-_, _*_, _^_, _≤_, _<_}
+use Prim.Native.Nat.{ℕ, zero, suc, _+_, _-_, _<_}
 use native.Mathlib.Nat.{eq-or-lt-of-le, le-of-suc-le-suc, not-suc-le-zero, le-step, lt-suc-self}
 use native.Mathlib.Omega.{arith}
-use lib.Dec.{eqb, ltb, leb}
-use lib.ListN.{length}
+use lib.Dec.{ltb}
 use borrow.Author.Tests.{ltb-true, lt-ltb, leb-true, le-leb, eqb-true, eq-eqb}
 use Rattle.logic.proofs.Bools.{and-l, and-r, and-i}
-use Rattle.sets.specs.Sets.{has, within, subset}
+use Rattle.sets.specs.Sets.{within}
 use Rattle.sets.proofs.Laws.{within-lt, lt-within, has-above, below-of, subset-has, has-subset}
-use Rattle.fields.specs.Fields.{byte, number, set, mark, version, goalCount, varCount, pairCount, headSet, groundSet, lengthAt, textAt, textLengthAt, goalEnd, placeAfter, goalPlace, pairAt}
+use Rattle.fields.specs.Fields.{byte, number, set, goalCount, varCount, pairCount, headSet, groundSet, textAt, textLengthAt, placeAfter, pairAt}
 use Rattle.reading.specs.declared.Reading.{Reading}
-use Rattle.reading.specs.declared.Reading.the-variants.{Fine, Refused}
-use Rattle.reading.specs.Reading.{_must_else_place_, between, counts, header, textLimit, firstBad, badText, goal, goals, ordered, ascends, pair, pairs, ending, readingOf, versionOne, reading}
+use Rattle.reading.specs.declared.Reading.the-variants.{Fine}
+use Rattle.reading.specs.Reading.{counts, header, textLimit, goal, goals, ordered, ascends, pair, pairs, ending, readingOf, versionOne, reading}
 use Rattle.reading.proofs.Text.{text-good, good-text}
 use Rattle.reading.proofs.Must.{must-so, must-fine, must-holds, between-low, between-high, between-in}
 use Rattle.record.specs.WellFormed.{NoBitFrom, WellFormedGoal, WellFormedPair, WellFormed}

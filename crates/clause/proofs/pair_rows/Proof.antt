@@ -1,15 +1,13 @@
-use Prim.Native.Nat.{ℕ, _≤_, _<_, _*_, _+_, _-_, _^_, _%_}
-use mathlib.Core.Path.{_≡_, refl, ap, _∙_, sym, subst}
+use Prim.Native.Nat.{ℕ, _≤_, _<_, _*_, _+_, _-_}
+use mathlib.Core.Path.{_≡_, ap, _∙_}
 use native.Mathlib.Omega.{arith}
 use borrow.Author.Needs.{needs}
 use denote.Ref.{now}
 use lib.Dec.{ltb}
-use lib.ListN.{length, getD}
 use Rattle.fields.specs.Fields as F
 use mathlib.Core.Logic.{⊎-elim}
 use borrow.Author.Tests.{ltb-true}
 use Rattle.logic.proofs.Bools.{and-l, and-r}
-use Rattle.clause.specs.Clause as C
 use Rattle.clause.proofs.Pairs.{rowsAfter, rows-zero, rows-turn, rows-same, rows-all}
 use Rattle.clause.proofs.pair_rows.Statement.{statement}
 use Rattle.clause.proofs.pair_rows.Tie as tie

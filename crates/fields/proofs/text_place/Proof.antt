@@ -1,9 +1,7 @@
-use Prim.Native.Nat.{ℕ, _≤_, _<_, _*_, _+_, _-_, _^_, _%_}
-use mathlib.Core.Path.{_≡_, refl, ap, _∙_, sym, subst}
+use Prim.Native.Nat.{ℕ, _+_}
+use mathlib.Core.Path.{ap}
 use native.Mathlib.Omega.{arith}
 use borrow.Author.Needs.{needs}
-use denote.Ref.{now}
-use lib.ListN.{length, getD}
 use Rattle.fields.specs.Fields as F
 use Rattle.fields.proofs.text_place.Statement.{statement}
 use Rattle.fields.proofs.text_place.Tie as tie

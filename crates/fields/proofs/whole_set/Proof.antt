@@ -1,9 +1,5 @@
-use Prim.Native.Nat.{ℕ, _≤_, _<_, _*_, _+_, _-_, _^_, _%_}
-use mathlib.Core.Path.{_≡_, refl, ap, _∙_, sym, subst}
-use native.Mathlib.Omega.{arith}
 use borrow.Author.Needs.{needs}
 use denote.Ref.{now}
-use lib.ListN.{length, getD}
 use Rattle.fields.proofs.Digits.{number-eight}
 use Rattle.fields.proofs.whole_set.Statement.{statement}
 use Rattle.fields.proofs.whole_set.Tie as tie

@@ -1,11 +1,9 @@
-use Prim.Native.Nat.{ℕ, _≤_, _<_, _*_, _+_, _-_, _^_, _%_}
+use Prim.Native.Nat.{_≤_, _-_}
 use mathlib.Core.Path.{_≡_, ap, ap₂, _∙_, sym}
 use mathlib.Core.Bool.{_&&_}
 use native.Mathlib.Omega.{arith}
 use borrow.Author.Needs.{needs}
 use denote.Ref.{now}
-use lib.ListN.{length, getD}
-use Rattle.fields.specs.Fields as F
 use Rattle.goals.specs.Text as T
 use Rattle.goals.proofs.Text.{clean-zero, clean-more}
 use Rattle.goals.proofs.clean.Statement.{statement}

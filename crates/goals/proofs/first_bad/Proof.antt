@@ -1,9 +1,6 @@
-use Prim.Native.Nat.{ℕ, _≤_, _<_, _*_, _+_, _-_, _^_, _%_}
-use mathlib.Core.Path.{_≡_, refl, ap, _∙_, sym, subst}
-use native.Mathlib.Omega.{arith}
+use mathlib.Core.Path.{_∙_, sym}
 use borrow.Author.Needs.{needs}
 use denote.Ref.{now}
-use lib.ListN.{length, getD}
 use Rattle.goals.proofs.Text.{clean-none}
 use Rattle.goals.proofs.first_bad.Statement.{statement}
 use Rattle.goals.proofs.first_bad.Tie as tie

@@ -1,9 +1,4 @@
-use Prim.Native.Nat.{ℕ, _≤_, _<_, _*_, _+_, _-_, _^_, _%_}
-use mathlib.Core.Path.{_≡_, refl, ap, _∙_, sym, subst}
-use native.Mathlib.Omega.{arith}
 use borrow.Author.Needs.{needs}
-use denote.Ref.{now}
-use lib.ListN.{length, getD}
 use Rattle.reading.specs.Reading as R
 use Rattle.reading.proofs.also.Statement.{statement}
 use Rattle.reading.proofs.also.Tie as tie
