@@ -59,257 +59,79 @@ group-Inv-loop text start depth rows₀ at₀ set₀ rows at set = Looped false 
 abbrev group-μ-loop : group-lts.MeasureT-loop
 group-μ-loop text start depth rows₀ at₀ set₀ rows at set = length text - at
 
--- src/lib.rt:115:5
-group-loop-holds : (t : ℕ) → group-lts.Need-loop-holds (
-  primary-below t,
-  primary.Post,
-  peek-reads.Asked,
-  peek-reads.Learnt,
-) (group-at t) group.Post group-Inv-loop group-μ-loop
+group-loop-holds : (t : ℕ) → group-lts.Need-loop-holds (primary-below t, primary.Post, peek-reads.Asked, peek-reads.Learnt) (group-at t) group.Post group-Inv-loop group-μ-loop
 group-loop-holds t c = loop-start false _ _ _ _ (c .before .pre .1)
 
--- src/lib.rt:116:13
-group-primary-requires : (t : ℕ) → group-lts.Need-primary-requires (
-  primary-below t,
-  primary.Post,
-  peek-reads.Asked,
-  peek-reads.Learnt,
-) (group-at t) group.Post group-Inv-loop group-μ-loop
+group-primary-requires : (t : ℕ) → group-lts.Need-primary-requires (primary-below t, primary.Post, peek-reads.Asked, peek-reads.Learnt) (group-at t) group.Post group-Inv-loop group-μ-loop
 group-primary-requires t c κs = (omega (arith, c .before .before .before .pre .0, c .before .loop .inv .from), c .before .loop .inv .words)
 
--- src/lib.rt:118:23
-group-enum-known-part : (t : ℕ) → group-lts.Need-enum-known-part (
-  primary-below t,
-  primary.Post,
-  peek-reads.Asked,
-  peek-reads.Learnt,
-) (group-at t) group.Post group-Inv-loop group-μ-loop
+group-enum-known-part : (t : ℕ) → group-lts.Need-enum-known-part (primary-below t, primary.Post, peek-reads.Asked, peek-reads.Learnt) (group-at t) group.Post group-Inv-loop group-μ-loop
 group-enum-known-part t c = search needs
 
--- src/lib.rt:119:17
-group-returns : (t : ℕ) → group-lts.Need-returns (
-  primary-below t,
-  primary.Post,
-  peek-reads.Asked,
-  peek-reads.Learnt,
-) (group-at t) group.Post group-Inv-loop group-μ-loop
+group-returns : (t : ℕ) → group-lts.Need-returns (primary-below t, primary.Post, peek-reads.Asked, peek-reads.Learnt) (group-at t) group.Post group-Inv-loop group-μ-loop
 group-returns t c = loop-bad false (c .before .before .before .before .before .before .before .args .text .now) _ _ _ _ _ _ (c .before .before .before .before .before .loop .inv) _ _ (c .before .before .before .primary .ensures) _ (c .before .part .given .1) (c .before .before .before .before .before .loop .rows)
 
--- src/lib.rt:121:24
-group-enum-known-part-2 : (t : ℕ) → group-lts.Need-enum-known-part-2 (
-  primary-below t,
-  primary.Post,
-  peek-reads.Asked,
-  peek-reads.Learnt,
-) (group-at t) group.Post group-Inv-loop group-μ-loop
+group-enum-known-part-2 : (t : ℕ) → group-lts.Need-enum-known-part-2 (primary-below t, primary.Post, peek-reads.Asked, peek-reads.Learnt) (group-at t) group.Post group-Inv-loop group-μ-loop
 group-enum-known-part-2 t c = search needs
 
--- src/lib.rt:125:20
-group-peek-requires : (t : ℕ) → group-lts.Need-peek-requires (
-  primary-below t,
-  primary.Post,
-  peek-reads.Asked,
-  peek-reads.Learnt,
-) (group-at t) group.Post group-Inv-loop group-μ-loop
+group-peek-requires : (t : ℕ) → group-lts.Need-peek-requires (primary-below t, primary.Post, peek-reads.Asked, peek-reads.Learnt) (group-at t) group.Post group-Inv-loop group-μ-loop
 group-peek-requires t c κs = search needs
 
--- src/lib.rt:126:26
-group-add-at : (t : ℕ) → group-lts.Need-add-at (
-  primary-below t,
-  primary.Post,
-  peek-reads.Asked,
-  peek-reads.Learnt,
-) (group-at t) group.Post group-Inv-loop group-μ-loop
+group-add-at : (t : ℕ) → group-lts.Need-add-at (primary-below t, primary.Post, peek-reads.Asked, peek-reads.Learnt) (group-at t) group.Post group-Inv-loop group-μ-loop
 group-add-at t c = let h = loop-moved false (c .before .before .before .before .before .before .before .before .before .args .text .now) _ _ _ _ _ _ (c .before .before .before .before .before .before .before .loop .inv) _ _ (c .before .before .before .before .before .primary .ensures) _ (c .before .before .before .part2 .given .1) in let l = inside (c .before .before .before .before .before .before .before .before .before .args .text .now) (c .before .before .before .part2 .given .0 .0 .end) 38 (omega arith) (sym (c .before .peek .ensures) ∙ c .if1 .taken) in omega arith
 
--- src/lib.rt:115:5
-group-loop-less : (t : ℕ) → group-lts.Need-loop-less (
-  primary-below t,
-  primary.Post,
-  peek-reads.Asked,
-  peek-reads.Learnt,
-) (group-at t) group.Post group-Inv-loop group-μ-loop
+group-loop-less : (t : ℕ) → group-lts.Need-loop-less (primary-below t, primary.Post, peek-reads.Asked, peek-reads.Learnt) (group-at t) group.Post group-Inv-loop group-μ-loop
 group-loop-less t c = let h = loop-moved false (c .before .before .before .before .before .before .before .before .before .args .text .now) _ _ _ _ _ _ (c .before .before .before .before .before .before .before .loop .inv) _ _ (c .before .before .before .before .before .primary .ensures) _ (c .before .before .before .part2 .given .1) in let l = inside (c .before .before .before .before .before .before .before .before .before .args .text .now) (c .before .before .before .part2 .given .0 .0 .end) 38 (omega arith) (sym (c .before .peek .ensures) ∙ c .if1 .taken) in omega arith
 
--- src/lib.rt:115:5
-group-loop-again : (t : ℕ) → group-lts.Need-loop-again (
-  primary-below t,
-  primary.Post,
-  peek-reads.Asked,
-  peek-reads.Learnt,
-) (group-at t) group.Post group-Inv-loop group-μ-loop
+group-loop-again : (t : ℕ) → group-lts.Need-loop-again (primary-below t, primary.Post, peek-reads.Asked, peek-reads.Learnt) (group-at t) group.Post group-Inv-loop group-μ-loop
 group-loop-again t c = loop-more false (c .before .before .before .before .before .before .before .before .before .args .text .now) _ _ _ _ _ _ (c .before .before .before .before .before .before .before .loop .inv) _ _ (c .before .before .before .before .before .primary .ensures) _ (c .before .before .before .part2 .given .1) _ (links-group (c .before .before .before .before .before .before .before .loop .set) (c .before .before .before .part2 .given .0 .0 .set) _ (loop-words false (c .before .before .before .before .before .before .before .before .before .args .text .now) _ _ _ _ _ _ (c .before .before .before .before .before .before .before .loop .inv) _ _ (c .before .before .before .before .before .primary .ensures) _ (c .before .before .before .part2 .given .1))) (sym (c .before .peek .ensures) ∙ c .if1 .taken)
 
--- src/lib.rt:128:21
-group-returns-2 : (t : ℕ) → group-lts.Need-returns-2 (
-  primary-below t,
-  primary.Post,
-  peek-reads.Asked,
-  peek-reads.Learnt,
-) (group-at t) group.Post group-Inv-loop group-μ-loop
+group-returns-2 : (t : ℕ) → group-lts.Need-returns-2 (primary-below t, primary.Post, peek-reads.Asked, peek-reads.Learnt) (group-at t) group.Post group-Inv-loop group-μ-loop
 group-returns-2 t c = loop-one false (c .before .before .before .before .before .before .before .before .before .before .args .text .now) _ _ _ _ _ _ (c .before .before .before .before .before .before .before .before .loop .inv) _ _ (c .before .before .before .before .before .before .primary .ensures) _ (c .before .before .before .before .part2 .given .1) _ (c .if2 .taken) (links-group (c .before .before .before .before .before .before .before .before .loop .set) (c .before .before .before .before .part2 .given .0 .0 .set) _ (loop-words false (c .before .before .before .before .before .before .before .before .before .before .args .text .now) _ _ _ _ _ _ (c .before .before .before .before .before .before .before .before .loop .inv) _ _ (c .before .before .before .before .before .before .primary .ensures) _ (c .before .before .before .before .part2 .given .1))) (λ e. c .before .if1 .left (c .before .before .peek .ensures ∙ e))
 
--- src/lib.rt:131:21
-group-returns-3 : (t : ℕ) → group-lts.Need-returns-3 (
-  primary-below t,
-  primary.Post,
-  peek-reads.Asked,
-  peek-reads.Learnt,
-) (group-at t) group.Post group-Inv-loop group-μ-loop
+group-returns-3 : (t : ℕ) → group-lts.Need-returns-3 (primary-below t, primary.Post, peek-reads.Asked, peek-reads.Learnt) (group-at t) group.Post group-Inv-loop group-μ-loop
 group-returns-3 t c = loop-end false (c .before .before .before .before .before .before .before .before .before .before .args .text .now) _ _ _ _ _ _ (c .before .before .before .before .before .before .before .before .loop .inv) _ _ (c .before .before .before .before .before .before .primary .ensures) _ (c .before .before .before .before .part2 .given .1) _ (c .if2 .left) (links-group (c .before .before .before .before .before .before .before .before .loop .set) (c .before .before .before .before .part2 .given .0 .0 .set) _ (loop-words false (c .before .before .before .before .before .before .before .before .before .before .args .text .now) _ _ _ _ _ _ (c .before .before .before .before .before .before .before .before .loop .inv) _ _ (c .before .before .before .before .before .before .primary .ensures) _ (c .before .before .before .before .part2 .given .1))) (λ e. c .before .if1 .left (c .before .before .peek .ensures ∙ e))
 
--- src/lib.rt:143:8
-primary-peek-requires : (t : ℕ) → primary-lts.Need-peek-requires (
-  peek-reads.Asked,
-  peek-reads.Learnt,
-  sequence-below t,
-  sequence.Post,
-  number-reads.Asked,
-  number-reads.Learnt,
-) (primary-at t) primary.Post
+primary-peek-requires : (t : ℕ) → primary-lts.Need-peek-requires (peek-reads.Asked, peek-reads.Learnt, sequence-below t, sequence.Post, number-reads.Asked, number-reads.Learnt) (primary-at t) primary.Post
 primary-peek-requires t c κs = search needs
 
--- src/lib.rt:145:13
-primary-returns : (t : ℕ) → primary-lts.Need-returns (
-  peek-reads.Asked,
-  peek-reads.Learnt,
-  sequence-below t,
-  sequence.Post,
-  number-reads.Asked,
-  number-reads.Learnt,
-) (primary-at t) primary.Post
+primary-returns : (t : ℕ) → primary-lts.Need-returns (peek-reads.Asked, peek-reads.Learnt, sequence-below t, sequence.Post, number-reads.Asked, number-reads.Learnt) (primary-at t) primary.Post
 primary-returns t c = pri-deep (c .before .before .before .before .args .text .now) (c .before .before .before .before .args .at) (c .before .before .before .before .args .depth) (c .before .before .before .before .args .rows .now) (sym (c .before .before .peek .ensures) ∙ c .before .if1 .taken) (c .before .before .before .before .args .rows .now) (c .if2 .taken)
 
--- src/lib.rt:147:35
-primary-add-sequence : (t : ℕ) → primary-lts.Need-add-sequence (
-  peek-reads.Asked,
-  peek-reads.Learnt,
-  sequence-below t,
-  sequence.Post,
-  number-reads.Asked,
-  number-reads.Learnt,
-) (primary-at t) primary.Post
+primary-add-sequence : (t : ℕ) → primary-lts.Need-add-sequence (peek-reads.Asked, peek-reads.Learnt, sequence-below t, sequence.Post, number-reads.Asked, number-reads.Learnt) (primary-at t) primary.Post
 primary-add-sequence t c = let l = inside (c .before .before .before .before .args .text .now) (c .before .before .before .before .args .at) 40 (omega arith) (sym (c .before .before .peek .ensures) ∙ c .before .if1 .taken) in omega arith
 
--- src/lib.rt:147:43
-primary-add-sequence-2 : (t : ℕ) → primary-lts.Need-add-sequence-2 (
-  peek-reads.Asked,
-  peek-reads.Learnt,
-  sequence-below t,
-  sequence.Post,
-  number-reads.Asked,
-  number-reads.Learnt,
-) (primary-at t) primary.Post
+primary-add-sequence-2 : (t : ℕ) → primary-lts.Need-add-sequence-2 (peek-reads.Asked, peek-reads.Learnt, sequence-below t, sequence.Post, number-reads.Asked, number-reads.Learnt) (primary-at t) primary.Post
 primary-add-sequence-2 t c = search needs
 
--- src/lib.rt:147:13
-primary-sequence-requires : (t : ℕ) → primary-lts.Need-sequence-requires (
-  peek-reads.Asked,
-  peek-reads.Learnt,
-  sequence-below t,
-  sequence.Post,
-  number-reads.Asked,
-  number-reads.Learnt,
-) (primary-at t) primary.Post
+primary-sequence-requires : (t : ℕ) → primary-lts.Need-sequence-requires (peek-reads.Asked, peek-reads.Learnt, sequence-below t, sequence.Post, number-reads.Asked, number-reads.Learnt) (primary-at t) primary.Post
 primary-sequence-requires t c κs = let l = inside (c .before .before .before .before .before .args .text .now) (c .before .before .before .before .before .args .at) 40 (omega arith) (sym (c .before .before .before .peek .ensures) ∙ c .before .before .if1 .taken) in (omega arith, c .before .before .before .before .before .pre .1)
 
--- src/lib.rt:149:23
-primary-enum-known-part : (t : ℕ) → primary-lts.Need-enum-known-part (
-  peek-reads.Asked,
-  peek-reads.Learnt,
-  sequence-below t,
-  sequence.Post,
-  number-reads.Asked,
-  number-reads.Learnt,
-) (primary-at t) primary.Post
+primary-enum-known-part : (t : ℕ) → primary-lts.Need-enum-known-part (peek-reads.Asked, peek-reads.Learnt, sequence-below t, sequence.Post, number-reads.Asked, number-reads.Learnt) (primary-at t) primary.Post
 primary-enum-known-part t c = search needs
 
--- src/lib.rt:150:24
-primary-enum-known-part-2 : (t : ℕ) → primary-lts.Need-enum-known-part-2 (
-  peek-reads.Asked,
-  peek-reads.Learnt,
-  sequence-below t,
-  sequence.Post,
-  number-reads.Asked,
-  number-reads.Learnt,
-) (primary-at t) primary.Post
+primary-enum-known-part-2 : (t : ℕ) → primary-lts.Need-enum-known-part-2 (peek-reads.Asked, peek-reads.Learnt, sequence-below t, sequence.Post, number-reads.Asked, number-reads.Learnt) (primary-at t) primary.Post
 primary-enum-known-part-2 t c = search needs
 
--- src/lib.rt:152:29
-primary-add-after : (t : ℕ) → primary-lts.Need-add-after (
-  peek-reads.Asked,
-  peek-reads.Learnt,
-  sequence-below t,
-  sequence.Post,
-  number-reads.Asked,
-  number-reads.Learnt,
-) (primary-at t) primary.Post
+primary-add-after : (t : ℕ) → primary-lts.Need-add-after (peek-reads.Asked, peek-reads.Learnt, sequence-below t, sequence.Post, number-reads.Asked, number-reads.Learnt) (primary-at t) primary.Post
 primary-add-after t c = let l = pri-within (c .before .before .before .before .before .before .before .before .before .args .text .now) _ _ _ (sym (c .before .before .before .before .before .before .before .peek .ensures) ∙ c .before .before .before .before .before .before .if1 .taken) (c .before .before .before .before .before .if2 .left) _ _ (c .before .before .before .sequence .ensures) _ (c .before .part2 .given .1) in omega arith
 
--- src/lib.rt:153:20
-primary-peek-requires-2 : (t : ℕ) → primary-lts.Need-peek-requires-2 (
-  peek-reads.Asked,
-  peek-reads.Learnt,
-  sequence-below t,
-  sequence.Post,
-  number-reads.Asked,
-  number-reads.Learnt,
-) (primary-at t) primary.Post
+primary-peek-requires-2 : (t : ℕ) → primary-lts.Need-peek-requires-2 (peek-reads.Asked, peek-reads.Learnt, sequence-below t, sequence.Post, number-reads.Asked, number-reads.Learnt) (primary-at t) primary.Post
 primary-peek-requires-2 t c κs = search needs
 
--- src/lib.rt:167:9
-primary-number-requires : (t : ℕ) → primary-lts.Need-number-requires (
-  peek-reads.Asked,
-  peek-reads.Learnt,
-  sequence-below t,
-  sequence.Post,
-  number-reads.Asked,
-  number-reads.Learnt,
-) (primary-at t) primary.Post
+primary-number-requires : (t : ℕ) → primary-lts.Need-number-requires (peek-reads.Asked, peek-reads.Learnt, sequence-below t, sequence.Post, number-reads.Asked, number-reads.Learnt) (primary-at t) primary.Post
 primary-number-requires t c κs = λ e. c .if1 .left (c .before .peek .ensures ∙ e)
 
--- src/lib.rt:139:1
-primary-returns-2 : (t : ℕ) → primary-lts.Need-returns-2 (
-  peek-reads.Asked,
-  peek-reads.Learnt,
-  sequence-below t,
-  sequence.Post,
-  number-reads.Asked,
-  number-reads.Learnt,
-) (primary-at t) primary.Post
+primary-returns-2 : (t : ℕ) → primary-lts.Need-returns-2 (peek-reads.Asked, peek-reads.Learnt, sequence-below t, sequence.Post, number-reads.Asked, number-reads.Learnt) (primary-at t) primary.Post
 primary-returns-2 t c = pri-bad (c .before .before .before .before .before .before .before .before .before .args .text .now) _ _ _ (sym (c .before .before .before .before .before .before .before .peek .ensures) ∙ c .before .before .before .before .before .before .if1 .taken) (c .before .before .before .before .before .if2 .left) _ _ (c .before .before .before .sequence .ensures) _ (c .before .part .given .1)
 
--- src/lib.rt:139:1
-primary-returns-3 : (t : ℕ) → primary-lts.Need-returns-3 (
-  peek-reads.Asked,
-  peek-reads.Learnt,
-  sequence-below t,
-  sequence.Post,
-  number-reads.Asked,
-  number-reads.Learnt,
-) (primary-at t) primary.Post
+primary-returns-3 : (t : ℕ) → primary-lts.Need-returns-3 (peek-reads.Asked, peek-reads.Learnt, sequence-below t, sequence.Post, number-reads.Asked, number-reads.Learnt) (primary-at t) primary.Post
 primary-returns-3 t c = pri-shut (c .before .before .before .before .before .before .before .before .before .before .before .args .text .now) _ _ _ (sym (c .before .before .before .before .before .before .before .before .before .peek .ensures) ∙ c .before .before .before .before .before .before .before .before .if1 .taken) (c .before .before .before .before .before .before .before .if2 .left) _ _ (c .before .before .before .before .before .sequence .ensures) _ (c .before .before .before .part2 .given .1) (sym (c .before .peek2 .ensures) ∙ c .if3 .taken)
 
--- src/lib.rt:139:1
-primary-returns-4 : (t : ℕ) → primary-lts.Need-returns-4 (
-  peek-reads.Asked,
-  peek-reads.Learnt,
-  sequence-below t,
-  sequence.Post,
-  number-reads.Asked,
-  number-reads.Learnt,
-) (primary-at t) primary.Post
+primary-returns-4 : (t : ℕ) → primary-lts.Need-returns-4 (peek-reads.Asked, peek-reads.Learnt, sequence-below t, sequence.Post, number-reads.Asked, number-reads.Learnt) (primary-at t) primary.Post
 primary-returns-4 t c = pri-left (c .before .before .before .before .before .before .before .before .before .before .before .args .text .now) _ _ _ (sym (c .before .before .before .before .before .before .before .before .before .peek .ensures) ∙ c .before .before .before .before .before .before .before .before .if1 .taken) (c .before .before .before .before .before .before .before .if2 .left) _ _ (c .before .before .before .before .before .sequence .ensures) _ (c .before .before .before .part2 .given .1) (λ e. c .if3 .left (c .before .peek2 .ensures ∙ e))
 
--- src/lib.rt:139:1
-primary-returns-5 : (t : ℕ) → primary-lts.Need-returns-5 (
-  peek-reads.Asked,
-  peek-reads.Learnt,
-  sequence-below t,
-  sequence.Post,
-  number-reads.Asked,
-  number-reads.Learnt,
-) (primary-at t) primary.Post
+primary-returns-5 : (t : ℕ) → primary-lts.Need-returns-5 (peek-reads.Asked, peek-reads.Learnt, sequence-below t, sequence.Post, number-reads.Asked, number-reads.Learnt) (primary-at t) primary.Post
 primary-returns-5 t c = c .number .ensures (c .before .before .before .before .args .depth) _ (c .before .before .before .before .pre .1)
 
 abbrev sequence-Inv-loop : sequence-lts.InvT-loop
@@ -318,136 +140,40 @@ sequence-Inv-loop text start depth rows₀ at₀ set₀ rows at set = Looped tru
 abbrev sequence-μ-loop : sequence-lts.MeasureT-loop
 sequence-μ-loop text start depth rows₀ at₀ set₀ rows at set = length text - at
 
--- src/lib.rt:84:5
-sequence-loop-holds : (t : ℕ) → sequence-lts.Need-loop-holds (
-  group-below t,
-  group.Post,
-  link-reads.Asked,
-  link-reads.Learnt,
-  peek-reads.Asked,
-  peek-reads.Learnt,
-) (sequence-at t) sequence.Post sequence-Inv-loop sequence-μ-loop
+sequence-loop-holds : (t : ℕ) → sequence-lts.Need-loop-holds (group-below t, group.Post, link-reads.Asked, link-reads.Learnt, peek-reads.Asked, peek-reads.Learnt) (sequence-at t) sequence.Post sequence-Inv-loop sequence-μ-loop
 sequence-loop-holds t c = loop-start true _ _ _ _ (c .before .pre .1)
 
--- src/lib.rt:85:13
-sequence-group-requires : (t : ℕ) → sequence-lts.Need-group-requires (
-  group-below t,
-  group.Post,
-  link-reads.Asked,
-  link-reads.Learnt,
-  peek-reads.Asked,
-  peek-reads.Learnt,
-) (sequence-at t) sequence.Post sequence-Inv-loop sequence-μ-loop
+sequence-group-requires : (t : ℕ) → sequence-lts.Need-group-requires (group-below t, group.Post, link-reads.Asked, link-reads.Learnt, peek-reads.Asked, peek-reads.Learnt) (sequence-at t) sequence.Post sequence-Inv-loop sequence-μ-loop
 sequence-group-requires t c κs = (omega (arith, c .before .before .before .pre .0, c .before .loop .inv .from), c .before .loop .inv .words)
 
--- src/lib.rt:87:23
-sequence-enum-known-part : (t : ℕ) → sequence-lts.Need-enum-known-part (
-  group-below t,
-  group.Post,
-  link-reads.Asked,
-  link-reads.Learnt,
-  peek-reads.Asked,
-  peek-reads.Learnt,
-) (sequence-at t) sequence.Post sequence-Inv-loop sequence-μ-loop
+sequence-enum-known-part : (t : ℕ) → sequence-lts.Need-enum-known-part (group-below t, group.Post, link-reads.Asked, link-reads.Learnt, peek-reads.Asked, peek-reads.Learnt) (sequence-at t) sequence.Post sequence-Inv-loop sequence-μ-loop
 sequence-enum-known-part t c = search needs
 
--- src/lib.rt:88:17
-sequence-returns : (t : ℕ) → sequence-lts.Need-returns (
-  group-below t,
-  group.Post,
-  link-reads.Asked,
-  link-reads.Learnt,
-  peek-reads.Asked,
-  peek-reads.Learnt,
-) (sequence-at t) sequence.Post sequence-Inv-loop sequence-μ-loop
+sequence-returns : (t : ℕ) → sequence-lts.Need-returns (group-below t, group.Post, link-reads.Asked, link-reads.Learnt, peek-reads.Asked, peek-reads.Learnt) (sequence-at t) sequence.Post sequence-Inv-loop sequence-μ-loop
 sequence-returns t c = loop-bad true (c .before .before .before .before .before .before .before .args .text .now) _ _ _ _ _ _ (c .before .before .before .before .before .loop .inv) _ _ (group-member (c .before .before .before .before .before .before .before .args .text .now) (c .before .before .before .before .before .loop .at) (c .before .before .before .before .before .before .before .args .depth) (c .before .before .before .before .before .loop .rows) (c .before .before .before .group .result) _ (c .before .before .before .group .ensures)) _ (c .before .part .given .1) (c .before .before .before .before .before .loop .rows)
 
--- src/lib.rt:90:24
-sequence-enum-known-part-2 : (t : ℕ) → sequence-lts.Need-enum-known-part-2 (
-  group-below t,
-  group.Post,
-  link-reads.Asked,
-  link-reads.Learnt,
-  peek-reads.Asked,
-  peek-reads.Learnt,
-) (sequence-at t) sequence.Post sequence-Inv-loop sequence-μ-loop
+sequence-enum-known-part-2 : (t : ℕ) → sequence-lts.Need-enum-known-part-2 (group-below t, group.Post, link-reads.Asked, link-reads.Learnt, peek-reads.Asked, peek-reads.Learnt) (sequence-at t) sequence.Post sequence-Inv-loop sequence-μ-loop
 sequence-enum-known-part-2 t c = search needs
 
--- src/lib.rt:93:17
-sequence-link-requires : (t : ℕ) → sequence-lts.Need-link-requires (
-  group-below t,
-  group.Post,
-  link-reads.Asked,
-  link-reads.Learnt,
-  peek-reads.Asked,
-  peek-reads.Learnt,
-) (sequence-at t) sequence.Post sequence-Inv-loop sequence-μ-loop
+sequence-link-requires : (t : ℕ) → sequence-lts.Need-link-requires (group-below t, group.Post, link-reads.Asked, link-reads.Learnt, peek-reads.Asked, peek-reads.Learnt) (sequence-at t) sequence.Post sequence-Inv-loop sequence-μ-loop
 sequence-link-requires t c κs = (loop-words true (c .before .before .before .before .before .before .before .before .args .text .now) _ _ _ _ _ _ (c .before .before .before .before .before .before .loop .inv) _ _ (group-member (c .before .before .before .before .before .before .before .before .args .text .now) (c .before .before .before .before .before .before .loop .at) (c .before .before .before .before .before .before .before .before .args .depth) (c .before .before .before .before .before .before .loop .rows) (c .before .before .before .before .group .result) _ (c .before .before .before .before .group .ensures)) _ (c .before .before .part2 .given .1))
 
--- src/lib.rt:95:20
-sequence-peek-requires : (t : ℕ) → sequence-lts.Need-peek-requires (
-  group-below t,
-  group.Post,
-  link-reads.Asked,
-  link-reads.Learnt,
-  peek-reads.Asked,
-  peek-reads.Learnt,
-) (sequence-at t) sequence.Post sequence-Inv-loop sequence-μ-loop
+sequence-peek-requires : (t : ℕ) → sequence-lts.Need-peek-requires (group-below t, group.Post, link-reads.Asked, link-reads.Learnt, peek-reads.Asked, peek-reads.Learnt) (sequence-at t) sequence.Post sequence-Inv-loop sequence-μ-loop
 sequence-peek-requires t c κs = search needs
 
--- src/lib.rt:96:26
-sequence-add-at : (t : ℕ) → sequence-lts.Need-add-at (
-  group-below t,
-  group.Post,
-  link-reads.Asked,
-  link-reads.Learnt,
-  peek-reads.Asked,
-  peek-reads.Learnt,
-) (sequence-at t) sequence.Post sequence-Inv-loop sequence-μ-loop
+sequence-add-at : (t : ℕ) → sequence-lts.Need-add-at (group-below t, group.Post, link-reads.Asked, link-reads.Learnt, peek-reads.Asked, peek-reads.Learnt) (sequence-at t) sequence.Post sequence-Inv-loop sequence-μ-loop
 sequence-add-at t c = let h = loop-moved true (c .before .before .before .before .before .before .before .before .before .before .before .args .text .now) _ _ _ _ _ _ (c .before .before .before .before .before .before .before .before .before .loop .inv) _ _ (group-member (c .before .before .before .before .before .before .before .before .before .before .before .args .text .now) (c .before .before .before .before .before .before .before .before .before .loop .at) (c .before .before .before .before .before .before .before .before .before .before .before .args .depth) (c .before .before .before .before .before .before .before .before .before .loop .rows) (c .before .before .before .before .before .before .before .group .result) _ (c .before .before .before .before .before .before .before .group .ensures)) _ (c .before .before .before .before .before .part2 .given .1) in let l = inside (c .before .before .before .before .before .before .before .before .before .before .before .args .text .now) (c .before .before .before .before .before .part2 .given .0 .0 .end) 44 (omega arith) (sym (c .before .peek .ensures) ∙ c .if1 .taken) in omega arith
 
--- src/lib.rt:84:5
-sequence-loop-less : (t : ℕ) → sequence-lts.Need-loop-less (
-  group-below t,
-  group.Post,
-  link-reads.Asked,
-  link-reads.Learnt,
-  peek-reads.Asked,
-  peek-reads.Learnt,
-) (sequence-at t) sequence.Post sequence-Inv-loop sequence-μ-loop
+sequence-loop-less : (t : ℕ) → sequence-lts.Need-loop-less (group-below t, group.Post, link-reads.Asked, link-reads.Learnt, peek-reads.Asked, peek-reads.Learnt) (sequence-at t) sequence.Post sequence-Inv-loop sequence-μ-loop
 sequence-loop-less t c = let h = loop-moved true (c .before .before .before .before .before .before .before .before .before .before .before .args .text .now) _ _ _ _ _ _ (c .before .before .before .before .before .before .before .before .before .loop .inv) _ _ (group-member (c .before .before .before .before .before .before .before .before .before .before .before .args .text .now) (c .before .before .before .before .before .before .before .before .before .loop .at) (c .before .before .before .before .before .before .before .before .before .before .before .args .depth) (c .before .before .before .before .before .before .before .before .before .loop .rows) (c .before .before .before .before .before .before .before .group .result) _ (c .before .before .before .before .before .before .before .group .ensures)) _ (c .before .before .before .before .before .part2 .given .1) in let l = inside (c .before .before .before .before .before .before .before .before .before .before .before .args .text .now) (c .before .before .before .before .before .part2 .given .0 .0 .end) 44 (omega arith) (sym (c .before .peek .ensures) ∙ c .if1 .taken) in omega arith
 
--- src/lib.rt:84:5
-sequence-loop-again : (t : ℕ) → sequence-lts.Need-loop-again (
-  group-below t,
-  group.Post,
-  link-reads.Asked,
-  link-reads.Learnt,
-  peek-reads.Asked,
-  peek-reads.Learnt,
-) (sequence-at t) sequence.Post sequence-Inv-loop sequence-μ-loop
+sequence-loop-again : (t : ℕ) → sequence-lts.Need-loop-again (group-below t, group.Post, link-reads.Asked, link-reads.Learnt, peek-reads.Asked, peek-reads.Learnt) (sequence-at t) sequence.Post sequence-Inv-loop sequence-μ-loop
 sequence-loop-again t c = loop-more true (c .before .before .before .before .before .before .before .before .before .before .before .args .text .now) _ _ _ _ _ _ (c .before .before .before .before .before .before .before .before .before .loop .inv) _ _ (group-member (c .before .before .before .before .before .before .before .before .before .before .before .args .text .now) (c .before .before .before .before .before .before .before .before .before .loop .at) (c .before .before .before .before .before .before .before .before .before .before .before .args .depth) (c .before .before .before .before .before .before .before .before .before .loop .rows) (c .before .before .before .before .before .before .before .group .result) _ (c .before .before .before .before .before .before .before .group .ensures)) _ (c .before .before .before .before .before .part2 .given .1) _ (links-sequence _ _ _ _ (c .before .before .link .ensures)) (sym (c .before .peek .ensures) ∙ c .if1 .taken)
 
--- src/lib.rt:98:21
-sequence-returns-2 : (t : ℕ) → sequence-lts.Need-returns-2 (
-  group-below t,
-  group.Post,
-  link-reads.Asked,
-  link-reads.Learnt,
-  peek-reads.Asked,
-  peek-reads.Learnt,
-) (sequence-at t) sequence.Post sequence-Inv-loop sequence-μ-loop
+sequence-returns-2 : (t : ℕ) → sequence-lts.Need-returns-2 (group-below t, group.Post, link-reads.Asked, link-reads.Learnt, peek-reads.Asked, peek-reads.Learnt) (sequence-at t) sequence.Post sequence-Inv-loop sequence-μ-loop
 sequence-returns-2 t c = loop-one true (c .before .before .before .before .before .before .before .before .before .before .before .before .args .text .now) _ _ _ _ _ _ (c .before .before .before .before .before .before .before .before .before .before .loop .inv) _ _ (group-member (c .before .before .before .before .before .before .before .before .before .before .before .before .args .text .now) (c .before .before .before .before .before .before .before .before .before .before .loop .at) (c .before .before .before .before .before .before .before .before .before .before .before .before .args .depth) (c .before .before .before .before .before .before .before .before .before .before .loop .rows) (c .before .before .before .before .before .before .before .before .group .result) _ (c .before .before .before .before .before .before .before .before .group .ensures)) _ (c .before .before .before .before .before .before .part2 .given .1) _ (c .if2 .taken) (links-sequence _ _ _ _ (c .before .before .before .link .ensures)) (λ e. c .before .if1 .left (c .before .before .peek .ensures ∙ e))
 
--- src/lib.rt:101:21
-sequence-returns-3 : (t : ℕ) → sequence-lts.Need-returns-3 (
-  group-below t,
-  group.Post,
-  link-reads.Asked,
-  link-reads.Learnt,
-  peek-reads.Asked,
-  peek-reads.Learnt,
-) (sequence-at t) sequence.Post sequence-Inv-loop sequence-μ-loop
+sequence-returns-3 : (t : ℕ) → sequence-lts.Need-returns-3 (group-below t, group.Post, link-reads.Asked, link-reads.Learnt, peek-reads.Asked, peek-reads.Learnt) (sequence-at t) sequence.Post sequence-Inv-loop sequence-μ-loop
 sequence-returns-3 t c = loop-end true (c .before .before .before .before .before .before .before .before .before .before .before .before .args .text .now) _ _ _ _ _ _ (c .before .before .before .before .before .before .before .before .before .before .loop .inv) _ _ (group-member (c .before .before .before .before .before .before .before .before .before .before .before .before .args .text .now) (c .before .before .before .before .before .before .before .before .before .before .loop .at) (c .before .before .before .before .before .before .before .before .before .before .before .before .args .depth) (c .before .before .before .before .before .before .before .before .before .before .loop .rows) (c .before .before .before .before .before .before .before .before .group .result) _ (c .before .before .before .before .before .before .before .before .group .ensures)) _ (c .before .before .before .before .before .before .part2 .given .1) _ (c .if2 .left) (links-sequence _ _ _ _ (c .before .before .before .link .ensures)) (λ e. c .before .if1 .left (c .before .before .peek .ensures ∙ e))
 
 pub +group+primary+sequence-spec : {M : Type 1} → statement M
