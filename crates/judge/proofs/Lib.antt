@@ -1,3 +1,3 @@
-pub mod Apart
-pub mod ByMasks
+pub mod CommonRow
+pub mod ClearSet
 pub mod Listed

@@ -9,22 +9,27 @@ use Rattle.order.proofs.wait_row.Statement.{statement}
 use Rattle.order.proofs.wait_row.Tie as tie
 use Rattle.order.proofs.wait_row.Reads as reads
 use Rattle.order.proofs.wait_row.Lts as lts
+use Rattle.judge.proofs.clear.Reads as clear-reads
 use Rattle.judge.proofs.waits.Reads as waits-reads
 use Rattle.order.proofs.with.Reads as with-reads
 
 abbrev Inv-loop : tie.InvT-loop
-Inv-loop i n ground free goals rows a row₀ j₀ row j = (i < j) × (j ≤ n) × (row ≡ waitRow ground free goals rows j i)
+Inv-loop i n ground free goals rows clear row₀ j₀ row j = (i < j) × (j ≤ n) × (row ≡ waitRow ground free goals rows j i)
 
 abbrev μ-loop : tie.MeasureT-loop
-μ-loop i n ground free goals rows a row₀ j₀ row j = n - j
+μ-loop i n ground free goals rows clear row₀ j₀ row j = n - j
 
 -- src/lib.rt:23:13
-mul-a : tie.Need-mul-a Inv-loop μ-loop
-mul-a c = search needs
+mul-clear : tie.Need-mul-clear Inv-loop μ-loop
+mul-clear c = search needs
 
 -- src/lib.rt:23:13
-element-copy-out-a : tie.Need-element-copy-out-a Inv-loop μ-loop
-element-copy-out-a c = search needs
+element-copy-out-clear : tie.Need-element-copy-out-clear Inv-loop μ-loop
+element-copy-out-clear c = search needs
+
+-- src/lib.rt:23:17
+clear-requires : tie.Need-clear-requires Inv-loop μ-loop
+clear-requires c κs = search needs
 
 -- src/lib.rt:25:17
 add-j : tie.Need-add-j Inv-loop μ-loop
@@ -61,17 +66,17 @@ loop-less c = search needs
 -- src/lib.rt:26:5
 loop-again : tie.Need-loop-again Inv-loop μ-loop
 loop-again c =
-    let a = c .before .before .before .before .before .before .args in
+    let a = c .before .before .before .before .before .before .before .args in
     let l = c .before .before .before .before .loop in (
       omega arith,
       omega arith,
-      rw (c .with .ensures, c .before .waits .ensures, l .inv .2) (row-more (a .ground) (a .free) (now (a .goals)) (now (a .rows)) (a .i) (l .j) (l .inv .0)),
+      rw (c .with .ensures, c .before .waits .ensures, c .before .before .before .before .before .clear .ensures, l .inv .2) (row-more (a .ground) (a .free) (now (a .goals)) (now (a .rows)) (a .i) (l .j) (l .inv .0)),
     )
 
 -- src/lib.rt:19:1
 returns : tie.Need-returns Inv-loop μ-loop
 returns c =
-    let a = c .before .before .before .args in
+    let a = c .before .before .before .before .args in
     let l = c .before .loop in
     let e : l .j ≡ a .n = omega arith in
     l .inv .2 ∙ ap (λ (m : ℕ). waitRow (a .ground) (a .free) (now (a .goals)) (now (a .rows)) m (a .i)) e
@@ -82,8 +87,9 @@ wait-row-spec =
     (tie.spec
     Inv-loop
     μ-loop
-    mul-a
-    element-copy-out-a
+    mul-clear
+    element-copy-out-clear
+    clear-requires
     add-j
     loop-holds
     mul-waits

@@ -1,0 +1,105 @@
+use borrow.Author.Needs.{needs}
+use denote.Ref.{now}
+use mathlib.Core.Path.{_≡_, sym, ap, _∙_}
+use Prim.Native.Nat.{_<_, _^_}
+use native.Mathlib.Omega.{arith}
+use lib.ListN.{length, getD}
+use Rattle.sets.specs.Sets.{meet, members}
+use Rattle.sets.proofs.Members.{fewer, first-in}
+use Rattle.sets.proofs.Builder.{meet-lt, without-lt}
+use Rattle.judge.specs.ByRows as J
+use Rattle.judge.proofs.CommonRow.{below-lt, common-start, common-more, common-end}
+use Rattle.judge.proofs.common.Statement.{statement}
+use Rattle.judge.proofs.common.Tie as tie
+use Rattle.judge.proofs.common.Reads as reads
+use Rattle.judge.proofs.common.Lts as lts
+use Rattle.sets.proofs.below.Reads as below-reads
+use Rattle.sets.proofs.first.Reads as first-reads
+use Rattle.sets.proofs.meet.Reads as meet-reads
+use Rattle.sets.proofs.single.Reads as single-reads
+use Rattle.sets.proofs.without.Reads as without-reads
+
+abbrev Inv-loop : tie.InvT-loop
+Inv-loop set rows all₀ rest₀ all rest = (rest < 2 ^ 64) × (all < 2 ^ 64) × (meet all (J.common rows 64 rest) ≡ J.common rows 64 set)
+
+abbrev μ-loop : tie.MeasureT-loop
+μ-loop set rows all₀ rest₀ all rest = length (members 64 rest)
+
+-- src/lib.rt:12:9
+below-requires : tie.Need-below-requires Inv-loop μ-loop
+below-requires c κs = search needs
+
+-- src/lib.rt:14:5
+loop-holds : tie.Need-loop-holds Inv-loop μ-loop
+loop-holds c = (c .before .fits .set .fits, omega (arith, c .below .ensures, below-lt (now (c .before .args .rows)) 64), ap (λ m. meet m (J.common (now (c .before .args .rows)) 64 (c .before .args .set))) (c .below .ensures) ∙ common-start (now (c .before .args .rows)) 64 (c .before .args .set))
+
+-- src/lib.rt:15:13
+first-requires : tie.Need-first-requires Inv-loop μ-loop
+first-requires c κs = search needs
+
+-- src/lib.rt:16:36
+cast-meet : tie.Need-cast-meet Inv-loop μ-loop
+cast-meet c = search needs
+
+-- src/lib.rt:16:31
+mul-meet : tie.Need-mul-meet Inv-loop μ-loop
+mul-meet c = search needs
+
+-- src/lib.rt:16:31
+element-copy-out-meet : tie.Need-element-copy-out-meet Inv-loop μ-loop
+element-copy-out-meet c = omega (arith, c .first .ensures, first-in 64 (c .before .before .loop .rest) (c .before .before .loop .inv .0) (c .before .loop-test .taken))
+
+-- src/lib.rt:16:9
+meet-requires : tie.Need-meet-requires Inv-loop μ-loop
+meet-requires c κs = search needs
+
+-- src/lib.rt:17:36
+single-requires : tie.Need-single-requires Inv-loop μ-loop
+single-requires c κs = omega (arith, c .before .before .first .ensures, first-in 64 (c .before .before .before .before .loop .rest) (c .before .before .before .before .loop .inv .0) (c .before .before .before .loop-test .taken))
+
+-- src/lib.rt:17:9
+without-requires : tie.Need-without-requires Inv-loop μ-loop
+without-requires c κs = search needs
+
+-- src/lib.rt:14:5
+loop-less : tie.Need-loop-less Inv-loop μ-loop
+loop-less c =
+    let l = c .before .before .before .before .before .before .loop in
+    rw (c .without .ensures, c .before .single .ensures, c .before .before .before .before .first .ensures) (fewer 64 (l .rest) (l .inv .0) (c .before .before .before .before .before .loop-test .taken))
+
+-- src/lib.rt:14:5
+loop-again : tie.Need-loop-again Inv-loop μ-loop
+loop-again c =
+    let l = c .before .before .before .before .before .before .loop in
+    let rows = c .before .before .before .before .before .before .before .before .args .rows .now in
+    rw (c .without .ensures, c .before .single .ensures, c .before .before .meet .ensures, c .before .before .before .before .first .ensures) (
+      without-lt 64 (l .rest) _ (l .inv .0),
+      meet-lt 64 (l .all) _ (l .inv .1),
+      common-more rows 64 (l .rest) (l .inv .0) (c .before .before .before .before .before .loop-test .taken) (l .all) (l .inv .1) ∙ l .inv .2,
+    )
+
+-- src/lib.rt:9:1
+returns : tie.Need-returns Inv-loop μ-loop
+returns c =
+    let l = c .before .loop in
+    let rows = now (c .before .before .before .args .rows) in
+    sym (common-end rows 64 (l .all) (l .inv .1)) ∙ ap (λ m. meet (l .all) (J.common rows 64 m)) (sym (c .loop-test .left)) ∙ l .inv .2
+
+pub common-spec : {M : Type 1} → statement M
+common-spec =
+    tie.close
+    (tie.spec
+    Inv-loop
+    μ-loop
+    below-requires
+    loop-holds
+    first-requires
+    cast-meet
+    mul-meet
+    element-copy-out-meet
+    meet-requires
+    single-requires
+    without-requires
+    loop-less
+    loop-again
+    returns)
