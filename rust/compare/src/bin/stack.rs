@@ -98,11 +98,13 @@ const CALLS: &[Call] = &[
     }),
 ];
 
-/// Uses about `kilobytes` of stack.
+/// Uses at least so many kilobytes of stack.
 #[inline(never)]
 fn deep(kilobytes: usize) -> u8 {
-    let block = std::hint::black_box([1u8; 1024]);
-    if kilobytes <= 1 { block[0] } else { deep(kilobytes - 1) ^ std::hint::black_box(block)[7] }
+    let mut block = [1u8; 1000];
+    std::hint::black_box(&mut block);
+    let below = if kilobytes <= 1 { 0 } else { deep(kilobytes - 1) };
+    below ^ std::hint::black_box(&block)[7]
 }
 
 fn main() -> ExitCode {
