@@ -1,0 +1,4 @@
+pub mod Numbers
+pub mod Words
+pub mod After
+pub mod Encoding

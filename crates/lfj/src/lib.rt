@@ -1,0 +1,165 @@
+// The operations for callers in C and Rust: one exported function each, thin over `annotator`. Each answers one word (specs/Words.antt) and has no
+// precondition; what is lent by `&` cannot change.
+use annotator::CheckAnswer;
+use annotator::ReadAnswer;
+use annotator::TextAnswer;
+use compare::Verdict;
+use first_n::Four;
+use form::Estimate;
+use graph::Graph;
+use refusal::Refusal;
+ghost use mathlib.Core.Path.{_≡_};
+ghost use mathlib.Core.Bool.{_&&_};
+ghost use Prim.Native.Nat.{_%_, _^_};
+ghost use lib.Dec.{leb};
+ghost use Rattle.compare.specs.Verdicts.{verdictOf};
+ghost use Rattle.first_n.specs.Found.{four};
+ghost use Rattle.form.specs.Form as F;
+ghost use Rattle.mel.specs.Annotation as M;
+ghost use Rattle.annotator.specs.Answers as P;
+ghost use Rattle.lfj.specs.Words as W;
+
+// A length or a place, at bits 0 to 31.
+fn low(n: usize) -> u64
+    ensures { λ w. ⌜ w ≡ n % 2 ^ 32 ⌝ }
+{
+    n as u64 % 0x1_0000_0000
+}
+
+// The word of a refusal.
+fn refused(r: Refusal) -> u64
+    ensures { λ w. ⌜ w ≡ W.refusalWord (r .number) (r .place) ⌝ }
+{
+    let number = r.number as u64;
+    number * 0x100_0000_0000_0000 + low(r.place)
+}
+
+// Reads the record: the goal count.
+#[no_mangle]
+pub extern "C" fn lfj_read(bytes: &[u8]) -> u64
+    ensures { λ r. ⌜ r ≡ W.readWord (P.read (now (bytes .entry))) ⌝ }
+{
+    match annotator::read(bytes) {
+        ReadAnswer::Refused(r) => refused(r),
+        ReadAnswer::Accepted(n) => n as u64,
+    }
+}
+
+// Whether g is from 1 to n.
+fn inside(g: usize, n: usize) -> bool
+    ensures { λ r. ⌜ r ≡ (leb 1 g && leb g n) ⌝ }
+{
+    (1 <= g) & (g <= n)
+}
+
+// The goals that a goal is before: their set.
+#[no_mangle]
+pub extern "C" fn lfj_after(bytes: &[u8], goal: u32) -> u64
+    ensures { λ r. ⌜ r ≡ W.afterWord (W.after (now (bytes .entry)) goal) ⌝ }
+{
+    let answer = annotator::order(bytes);
+    let reading = answer.reading;
+    match reading {
+        ReadAnswer::Refused(r) => refused(r),
+        ReadAnswer::Accepted(n) => {
+            let g = goal as usize;
+            if inside(g, n) {
+                let graph = answer.graph;
+                return graph.row(g) as u64;
+            }
+            refused(Refusal {
+                number: 14,
+                place: 0,
+            })
+        }
+    }
+}
+
+// The word of refusal 13 with its goals.
+fn no_form(q: Four) -> u64
+    ensures { λ w. ⌜ w ≡ W.formWord (F.thirteen (four q)) ⌝ }
+{
+    let a = q.a as u64 % 0x40;
+    let b = q.b as u64 % 0x40;
+    let c = q.c as u64 % 0x40;
+    let d = q.d as u64 % 0x40;
+    let low = a * 0x1_0000_0000 + b * 0x40_0000_0000;
+    let high = c * 0x1000_0000_0000 + d * 0x4_0000_0000_0000;
+    0xd00_0000_0000_0000 + low + high
+}
+
+// Writes the house form into `out`: its length.
+#[no_mangle]
+pub extern "C" fn lfj_form(bytes: &[u8], out: &mut [u8]) -> u64
+    ensures { λ r. ⌜ r ≡ W.formWord (F.answer (F.plan (now (bytes .entry))) (now (out .entry))) ⌝ }
+    ensures { λ _. ⌜ now (out .exit) ≡ F.filled (F.plan (now (bytes .entry))) (now (out .entry)) ⌝ }
+{
+    match annotator::form(bytes, out) {
+        form::Written::Refused(r) => refused(r),
+        form::Written::NoForm(q) => no_form(q),
+        form::Written::Done(n) => low(n),
+    }
+}
+
+// Estimates the form's length.
+#[no_mangle]
+pub extern "C" fn lfj_form_length(bytes: &[u8]) -> u64
+    ensures { λ r. ⌜ W.EstimateWord (F.plan (now (bytes .entry))) r ⌝ }
+{
+    match annotator::form_length(bytes) {
+        Estimate::Refused(r) => refused(r),
+        Estimate::NoForm(q) => no_form(q),
+        Estimate::Length(n) => low(n),
+    }
+}
+
+// Writes the MEL annotation into `out`: its length.
+#[no_mangle]
+pub extern "C" fn lfj_mel(bytes: &[u8], out: &mut [u8]) -> u64
+    ensures { λ r. ⌜ r ≡ W.melWord (M.melAnswer (now (bytes .entry)) (now (out .entry))) ⌝ }
+    ensures { λ _. ⌜ now (out .exit) ≡ M.melBuffer (now (bytes .entry)) (now (out .entry)) ⌝ }
+{
+    match annotator::mel(bytes, out) {
+        mel::Written::Refused(r) => refused(r),
+        mel::Written::Done(n) => low(n),
+    }
+}
+
+// Where the text of a goal stands: its place and its length.
+#[no_mangle]
+pub extern "C" fn lfj_goal_text(bytes: &[u8], goal: u32) -> u64
+    ensures { λ r. ⌜ r ≡ W.textWord (P.goalText (now (bytes .entry)) goal) ⌝ }
+{
+    match annotator::find_text(bytes, goal) {
+        TextAnswer::NoText(r) => refused(r),
+        TextAnswer::At(s) => {
+            let length = s.length as u64 % 0x1_0000;
+            low(s.place) + length * 0x1_0000_0000
+        }
+    }
+}
+
+// The word of a verdict.
+fn verdict(v: Verdict) -> u64
+    ensures { λ w. ⌜ w ≡ W.checkWord (P.saying (verdictOf v)) ⌝ }
+{
+    match v {
+        Verdict::Same => 0,
+        Verdict::Differs(p) => {
+            let i = p.i as u64 % 0x100;
+            let j = p.j as u64 % 0x100;
+            i + j * 0x100
+        }
+    }
+}
+
+// Holds an expression's text against the record's order: 0 for same, else i and j.
+#[no_mangle]
+pub extern "C" fn lfj_check(bytes: &[u8], text: &[u8]) -> u64
+    ensures { λ r. ⌜ r ≡ W.checkWord (P.check (now (bytes .entry)) (now (text .entry))) ⌝ }
+{
+    match annotator::check(bytes, text) {
+        CheckAnswer::Rejected(r) => refused(r),
+        CheckAnswer::Verdict(v) => verdict(v),
+    }
+}
