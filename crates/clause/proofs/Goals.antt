@@ -1,4 +1,4 @@
--- Filling the sets of the goals. Assumes nothing.
+-- Filling the sets of the goals.
 use mathlib.Core.Path.{_≡_, ap, _∙_}
 use mathlib.Core.List.{List}
 use Prim.Native.Nat.{ℕ, suc, _+_, _-_, _<_}

@@ -1,4 +1,4 @@
--- Marking the listed pairs in their rows, one pair after the other. Assumes nothing.
+-- Marking the listed pairs in their rows, one pair after the other.
 use mathlib.Core.Path.{_≡_, refl, sym, ap, ap₂, _∙_, subst}
 use mathlib.Core.Bool.{Bool, true, false, _&&_, _||_}
 use mathlib.Core.List.{List}

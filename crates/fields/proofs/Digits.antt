@@ -1,4 +1,4 @@
--- Numbers of several bytes. Assumes nothing.
+-- Numbers of several bytes.
 use mathlib.Core.Path.{_≡_, refl}
 use Prim.Native.Nat.{ℕ, _+_, _*_, _^_, _≤_, _<_}
 use native.Mathlib.Nat.{pow-le-pow-right, zero-lt-suc}

@@ -1,4 +1,4 @@
--- Where the goals stand, one after the other. Assumes nothing.
+-- Where the goals stand, one after the other.
 use mathlib.Core.Path.{_≡_, refl}
 use mathlib.Core.List.{List}
 use Prim.Native.Nat.{ℕ, _+_}

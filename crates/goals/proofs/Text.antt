@@ -1,4 +1,4 @@
--- The first bad byte of a text, as a loop looks for it. Assumes nothing.
+-- The first bad byte of a text, as a loop looks for it.
 use mathlib.Core.Path.{_≡_, refl, sym, ap, _∙_}
 use mathlib.Core.Logic.{⊎-elim}
 use mathlib.Core.Bool.{Bool, true, false, _&&_, cond}

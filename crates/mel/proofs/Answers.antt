@@ -1,4 +1,4 @@
--- The answers of the operation. Assumes nothing.
+-- The answers of the operation.
 use mathlib.Core.Path.{_≡_, sym, ap}
 use mathlib.Core.List.{List}
 use Prim.Native.Nat.{ℕ, _≤_, _<_}

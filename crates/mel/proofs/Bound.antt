@@ -1,5 +1,5 @@
 -- A bound on the length of the annotation by the number of goals n and of variables v: n * 15 * (v + v * v) + 8 * n. A buffer as long as that takes every
--- such text, so it is written without being measured. Assumes nothing.
+-- such text, so it is written without being measured.
 use mathlib.Core.Path.{_≡_, refl, sym, ap, _∙_}
 use mathlib.Core.Logic.{⊎-elim}
 use mathlib.Core.Bool.{Bool, true, false, cond, true≢false}

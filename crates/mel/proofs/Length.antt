@@ -1,4 +1,4 @@
--- A bound on the length of the annotation: 15 bytes a check, and so below 70,000 a stage. Assumes nothing.
+-- A bound on the length of the annotation: 15 bytes a check, and so below 70,000 a stage.
 use mathlib.Core.Path.{_≡_, refl, ap}
 use mathlib.Core.Bool.{Bool, true, false, cond}
 use mathlib.Core.List.{List, [], _∷_, map}

@@ -1,4 +1,4 @@
--- Laws of the texts that the writers write. Assumes nothing.
+-- Laws of the texts that the writers write.
 use mathlib.Core.Path.{_≡_, refl, sym, ap, _∙_}
 use mathlib.Core.Bool.{Bool, true, false, _||_, or-false}
 use mathlib.Core.List.{List, [], _∷_, _++_, map, append-assoc}

@@ -1,4 +1,4 @@
--- The record's clause, and the sets that the code is given, have one annotation. Assumes nothing.
+-- The record's clause, and the sets that the code is given, have one annotation.
 use mathlib.Core.Path.{_≡_, refl, sym, ap, ap₂, _∙_}
 use mathlib.Core.Bool.{Bool, true, false, _||_, cond, or-false}
 use mathlib.Core.List.{List, _∷_, map}

@@ -1,5 +1,4 @@
 -- T10: what the definition of the annotation gives, in the words of `Plain` of crate stages. For any width, any clause and any number of goals; at the end of the operation on a record.
--- Assumes nothing.
 use mathlib.Core.Path.{_≡_, sym, _∙_}
 use mathlib.Core.Logic.{_↔_}
 use mathlib.Core.List.{List, _++_}

@@ -1,4 +1,4 @@
--- The texts of checks, stages and the whole, by masks. Assumes nothing.
+-- The texts of checks, stages and the whole, by masks.
 use mathlib.Core.Path.{_≡_, refl, sym, ap, ap₂, _∙_}
 use mathlib.Core.Bool.{Bool, true, false, _&&_, cond}
 use mathlib.Core.List.{List, [], _∷_, _++_, map, append-assoc, append-nil, map-append}

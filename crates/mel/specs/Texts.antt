@@ -1,4 +1,4 @@
--- The texts that the writers write, by masks. Assumes nothing.
+-- The texts that the writers write, by masks.
 use mathlib.Core.Bool.{Bool, false}
 use mathlib.Core.List.{List, [], _∷_, _++_, map}
 use Prim.Native.Nat.{ℕ, _+_}

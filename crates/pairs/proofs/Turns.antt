@@ -1,4 +1,4 @@
--- One pair after the other, as a loop takes them. Assumes nothing.
+-- One pair after the other, as a loop takes them.
 use mathlib.Core.Path.{_≡_, refl, sym, ap, _∙_}
 use mathlib.Core.Bool.{Bool, true, false, _&&_}
 use mathlib.Core.List.{List}

@@ -1,4 +1,4 @@
--- What a step of reading says. Assumes nothing.
+-- What a step of reading says.
 use mathlib.Core.Path.{_≡_, refl, ap, _∙_, subst}
 use mathlib.Core.Bool.{Bool, true, false}
 use Prim.Native.Nat.{ℕ, _≤_}

@@ -1,4 +1,4 @@
--- A text has no bad byte exactly if each of its bytes is good. Assumes nothing.
+-- A text has no bad byte exactly if each of its bytes is good.
 use mathlib.Core.Path.{_≡_, refl, sym, ap, _∙_}
 use mathlib.Core.Bool.{Bool, true, false, cond}
 use mathlib.Core.List.{List}

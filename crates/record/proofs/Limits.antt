@@ -1,4 +1,4 @@
--- What the fields of a well-formed record give. Assumes nothing.
+-- What the fields of a well-formed record give.
 use mathlib.Core.Path.{_≡_, subst}
 use mathlib.Core.List.{List}
 use Prim.Native.Nat.{ℕ, zero, suc, _+_, _-_, _*_, _^_, _≤_, _<_}

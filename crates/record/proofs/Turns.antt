@@ -1,4 +1,4 @@
--- One goal after the other, as a loop takes them. Assumes nothing.
+-- One goal after the other, as a loop takes them.
 use mathlib.Core.Path.{_≡_, refl}
 use mathlib.Core.List.{List}
 use Prim.Native.Nat.{ℕ, _+_}

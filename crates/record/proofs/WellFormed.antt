@@ -1,4 +1,4 @@
--- Reading answers `Fine` exactly if the record is well formed. Assumes nothing.
+-- Reading answers `Fine` exactly if the record is well formed.
 use mathlib.Core.Path.{_≡_, refl, sym, _∙_, subst}
 use mathlib.Core.Logic.{⊎-elim}
 use mathlib.Core.Bool.{true, _&&_}

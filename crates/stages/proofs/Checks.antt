@@ -1,4 +1,4 @@
--- The list of a stage's checks has exactly those that the words ask for. Assumes nothing.
+-- The list of a stage's checks has exactly those that the words ask for.
 use mathlib.Core.Path.{_≡_, refl, sym, ap, ap₂, _∙_, subst}
 use mathlib.Core.Logic.{_⊎_, inl, inr, ⊎-elim}
 use mathlib.Core.Bool.{Bool, true, false, cond, true≢false, false≢true}

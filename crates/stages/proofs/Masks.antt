@@ -1,4 +1,4 @@
--- The sets of specs/Masks.antt have the members that specs/Mel.antt names. Assumes nothing.
+-- The sets of specs/Masks.antt have the members that specs/Mel.antt names.
 use mathlib.Core.Path.{_≡_, refl, sym, ap, _∙_, ap₂}
 use mathlib.Core.Logic.{⊎-elim}
 use mathlib.Core.Bool.{Bool, true, false, _&&_, _||_, cond, false≢true, or-false}

@@ -1,4 +1,4 @@
--- The checks of a stage by masks: the ground checks are a set, and the independence checks of a variable are a set. Assumes nothing.
+-- The checks of a stage by masks: the ground checks are a set, and the independence checks of a variable are a set.
 use mathlib.Core.Path.{_≡_, refl, sym, ap, ap₂, _∙_}
 use mathlib.Core.Bool.{Bool, true, false, not, _&&_, _||_, cond, true≢false}
 use mathlib.Core.List.{List, [], _∷_}

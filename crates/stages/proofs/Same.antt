@@ -1,4 +1,4 @@
--- Two clauses that agree on what the annotation looks at have the same text. Assumes nothing.
+-- Two clauses that agree on what the annotation looks at have the same text.
 use mathlib.Core.Path.{_≡_, refl, sym, ap, ap₂, subst}
 use mathlib.Core.Bool.{Bool, false, not, _&&_, _||_, cond}
 use mathlib.Core.List.{List, [], _∷_, _++_, map}

@@ -1,4 +1,4 @@
--- Where stages start, and that they partition the goals in clause order. Assumes nothing.
+-- Where stages start, and that they partition the goals in clause order.
 use mathlib.Core.Path.{_≡_, refl, sym, ap, ap₂, _∙_, subst}
 use mathlib.Core.Logic.{⊎-elim}
 use mathlib.Core.Bool.{Bool, true, false, not, _&&_, cond, true≢false}

@@ -1,4 +1,4 @@
--- Where the last stage of goals 1 to q starts, by masks. Assumes nothing.
+-- Where the last stage of goals 1 to q starts, by masks.
 use mathlib.Core.Path.{_≡_, refl, sym, ap, ap₂, _∙_}
 use mathlib.Core.Logic.{⊎-elim}
 use mathlib.Core.Bool.{Bool, true, false, not, _&&_, _||_, true≢false}

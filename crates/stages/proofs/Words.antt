@@ -1,4 +1,4 @@
--- What the words of specs/Mel.antt mean. Assumes nothing.
+-- What the words of specs/Mel.antt mean.
 use mathlib.Core.Path.{_≡_, refl, sym, ap, ap₂, _∙_}
 use mathlib.Core.Logic.{inl, inr, ⊎-elim}
 use mathlib.Core.Bool.{Bool, true, false, not, _&&_, _||_, true≢false, false≢true}

@@ -1,6 +1,5 @@
 -- The same by masks: the sets that the code computes, of goals given as a list of masks. proofs/Masks.antt says that they have the members that
 -- specs/Mel.antt names.
--- Assumes nothing.
 use mathlib.Core.Bool.{_||_, cond}
 use mathlib.Core.List.{List}
 use Prim.Native.Nat.{ℕ, zero, suc, _+_, _-_}

@@ -1,6 +1,6 @@
--- The MEL annotation (01, "The MEL annotation"; document 003, section 3.3, steps 1 to 5), for any number of goals and of variables.
+-- The MEL annotation (01, "The MEL annotation"; document 003, section 3.3, steps 1 to 5), for any number of goals and of variables; the text writes numbers
+-- below 100, as a record has them.
 -- Goals are numbered from 1; "goals p+1 to q" are given by p and q.
--- Assumes nothing.
 use mathlib.Core.Bool.{Bool, false, not, _&&_, _||_, cond}
 use mathlib.Core.List.{List, [], _∷_, _++_, map}
 use Prim.Native.Nat.{ℕ, zero, suc, _+_, _-_}

@@ -1,5 +1,4 @@
 -- What is proved of the stages and their checks (T10), as plain statements: no tests, no lists of tests.
--- Assumes nothing.
 use mathlib.Core.Path.{_≡_}
 use mathlib.Core.Logic.{_⊎_}
 use mathlib.Core.Bool.{true, false}
