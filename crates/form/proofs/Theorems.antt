@@ -1,5 +1,11 @@
--- T6, demand 3: for every well-formed record "no form" is answered exactly if no expression has the record's order, with the first four goals that show it;
--- otherwise the call writes the text of the only house form of the record's order, or names its length. The definitions are those of specs/Demand.antt.
+-- T5, T6 and T9.
+-- T9: the closed graph is the chain order (`before-is`), a strict order from lower to higher numbers (`before-order`), and closing again changes nothing
+-- (`before-closed`). T5: the search finds q exactly if q is the first N by a, then b, c, d (`first-n-is`), and none exactly if there is none (`no-n-is`).
+-- T6, demand 3 (`demand`): for every well-formed record "no form" is answered exactly if no expression has the record's order, with the first four goals
+-- that show it; otherwise the call writes the text of the only house form of the record's order, or names its length. Its words are those of
+-- specs/Demand.antt.
+pub use Rattle.order.proofs.Theorems.{before-is, before-order, before-closed}
+pub use Rattle.expression.proofs.Theorems.{first-n-is, no-n-is}
 use mathlib.Core.Path.{_≡_, refl, sym, ap, _∙_, subst}
 use mathlib.Core.Bool.{Bool, true, false, _||_, cond, true≢false}
 use mathlib.Core.List.{List, _++_}
