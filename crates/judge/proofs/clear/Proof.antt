@@ -38,7 +38,8 @@ returns : tie.Need-returns
 returns c =
     let s = c .before .before .before .before .before .before in
     let a = s .args in
-    cc (clear-masks (a .ground) (a .free) (now (a .rows)) 64 (a .a) (s .fits .ground .fits) (s .fits .free .fits))
+    rw (c .union3 .ensures, c .before .without2 .ensures, c .before .before .union2 .ensures, c .before .before .before .common .ensures, c .before .before .before .before .without .ensures, c .before .before .before .before .before .union .ensures)
+    (clear-masks (a .ground) (a .free) (now (a .rows)) 64 (a .a) (s .fits .ground .fits) (s .fits .free .fits))
 
 pub clear-spec : {M : Type 1} → statement M
 clear-spec =
