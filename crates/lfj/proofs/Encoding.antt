@@ -1,5 +1,6 @@
 -- The words lose nothing: bits 56 to 63 of every word are its refusal's number, so those of an accepted answer are 0, and every value stands in its bits.
 use mathlib.Core.Path.{_≡_}
+use mathlib.Core.Logic.{_⊎_, inl, inr}
 use Prim.Native.Nat.{ℕ, _+_, _*_, _/_, _%_, _^_, _≤_, _<_}
 use native.Mathlib.Omega.{arith}
 use Rattle.grammar.specs.Check.{differs}
@@ -35,9 +36,10 @@ pub check-number : (v : CheckValues) → checkWord v / 2 ^ 56 ≡ v .number
 unfolding checkWord refusalWord
 check-number v = omega arith
 
-pub form-number : (v : F.Values) → v .place + v .length < 2 ^ 32 → formWord v / 2 ^ 56 ≡ v .number
+pub form-number : (v : F.Values) → (v .place ≡ 0) ⊎ (v .length ≡ 0) → formWord v / 2 ^ 56 ≡ v .number
 unfolding formWord refusalWord
-form-number v h = omega arith
+form-number v (inl h) = omega arith
+form-number v (inr h) = omega arith
 
 pub mel-number : (v : M.Values) → melWord v / 2 ^ 56 ≡ v .number
 unfolding melWord refusalWord
