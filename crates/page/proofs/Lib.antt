@@ -1,0 +1,4 @@
+pub mod Lines
+pub mod Plans
+pub mod Mel
+pub mod Whole

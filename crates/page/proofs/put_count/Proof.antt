@@ -1,0 +1,45 @@
+use native.Mathlib.Omega.{arith}
+use Rattle.text.proofs.Laws.{then, recast}
+use Rattle.page.proofs.Lines.{count-parts, count-length}
+use borrow.Author.Needs.{needs}
+use Rattle.page.proofs.put_count.Statement.{statement}
+use Rattle.page.proofs.put_count.Tie as tie
+
+-- src/lib.rt:48:42
+slice-aggregate-put-bytes : tie.Need-slice-aggregate-put-bytes
+slice-aggregate-put-bytes c = search needs
+
+-- src/lib.rt:48:9
+put-bytes-requires : tie.Need-put-bytes-requires
+put-bytes-requires c κs = search needs
+
+-- src/lib.rt:49:5
+put-numeral-requires : tie.Need-put-numeral-requires
+put-numeral-requires c κs = omega (arith, count-length (c .before .before .before .before .before .before .before .args .n))
+
+-- src/lib.rt:50:5
+put-byte-requires : tie.Need-put-byte-requires
+put-byte-requires c κs = omega (arith, count-length (c .before .before .before .before .before .before .before .before .before .before .before .args .n))
+
+-- src/lib.rt:44:1
+same-length : tie.Need-same-length
+same-length c = search needs
+
+-- src/lib.rt:44:1
+returns : tie.Need-returns
+returns c =
+    let e = c .before .before in
+    let a = e .before .before .before .before in
+    let first = a .before .before .before .before in
+    recast (count-parts _) (then (then (first .put-bytes .ensures) (a .put-numeral .ensures)) (e .put-byte .ensures))
+
+pub put-count-spec : {M : Type 1} → statement M
+put-count-spec =
+    tie.close
+    (tie.spec
+    slice-aggregate-put-bytes
+    put-bytes-requires
+    put-numeral-requires
+    put-byte-requires
+    same-length
+    returns)

@@ -1,0 +1,47 @@
+use native.Mathlib.Omega.{arith}
+use denote.Ref.{now}
+use Rattle.text.proofs.Laws.{then, recast}
+use Rattle.page.proofs.Lines.{goal-parts, goal-length}
+use borrow.Author.Needs.{needs}
+use Rattle.page.proofs.put_goal.Statement.{statement}
+use Rattle.page.proofs.put_goal.Tie as tie
+
+-- src/lib.rt:58:9
+put-numeral-requires : tie.Need-put-numeral-requires
+put-numeral-requires c κs = omega (arith, goal-length (c .before .before .before .args .g) (now (c .before .before .before .args .shown)))
+
+-- src/lib.rt:59:5
+put-byte-requires : tie.Need-put-byte-requires
+put-byte-requires c κs = omega (arith, goal-length (c .before .before .before .before .before .before .before .args .g) (now (c .before .before .before .before .before .before .before .args .shown)))
+
+-- src/lib.rt:60:5
+put-bytes-requires : tie.Need-put-bytes-requires
+put-bytes-requires c κs = omega (arith, goal-length (c .before .before .before .before .before .before .before .before .before .before .before .args .g) (now (c .before .before .before .before .before .before .before .before .before .before .before .args .shown)))
+
+-- src/lib.rt:61:5
+put-byte-requires-2 : tie.Need-put-byte-requires-2
+put-byte-requires-2 c κs = omega (arith, goal-length (c .before .before .before .before .before .before .before .before .before .before .before .before .before .before .before .args .g) (now (c .before .before .before .before .before .before .before .before .before .before .before .before .before .before .before .args .shown)))
+
+-- src/lib.rt:54:1
+same-length : tie.Need-same-length
+same-length c = search needs
+
+-- src/lib.rt:54:1
+returns : tie.Need-returns
+returns c =
+    let e = c .before .before in
+    let d = e .before .before .before .before in
+    let b = d .before .before .before .before in
+    let a = b .before .before .before .before in
+    recast (goal-parts _ _) (then (then (then (a .put-numeral .ensures) (b .put-byte .ensures)) (d .put-bytes .ensures)) (e .put-byte2 .ensures))
+
+pub put-goal-spec : {M : Type 1} → statement M
+put-goal-spec =
+    tie.close
+    (tie.spec
+    put-numeral-requires
+    put-byte-requires
+    put-bytes-requires
+    put-byte-requires-2
+    same-length
+    returns)

@@ -1,0 +1,67 @@
+use mathlib.Core.Path.{_≡_, ap, _∙_}
+use Prim.Native.Nat.{ℕ, _≤_}
+use native.Mathlib.Omega.{arith}
+use native.Mathlib.Nat.{le-refl}
+use denote.Ref.{now}
+use lib.ListN.{length}
+use Rattle.text.proofs.Laws.{then, recast}
+use Rattle.fields.specs.Fields.{goalCount}
+use Rattle.page.specs.Parts.{countLine}
+use Rattle.page.proofs.Lines.{digits, count-length, goals-length}
+use Rattle.page.proofs.Plans.{form-limit}
+use Rattle.page.proofs.Whole.{top-parts}
+use borrow.Author.Needs.{needs}
+use Rattle.page.proofs.put_top.Statement.{statement}
+use Rattle.page.proofs.put_top.Tie as tie
+
+-- the first line has at most 27 bytes
+first-line : (c : tie.After-size-of) → length (countLine (c .size-of .result)) ≤ 27
+first-line c = omega (arith, count-length (c .size-of .result), digits (c .size-of .result) (omega (arith, c .size-of .ensures .1)))
+
+byte-requires : tie.Need-byte-requires
+byte-requires c κs = search needs
+
+size-of-requires : tie.Need-size-of-requires
+size-of-requires c κs = search needs
+
+put-count-requires : tie.Need-put-count-requires
+put-count-requires c κs = omega (arith, first-line (c .before))
+
+put-goals-requires : tie.Need-put-goals-requires
+put-goals-requires c κs = (c .before .before .before .before .before .before .before .before .before .pre, omega (arith, first-line (c .before .before .before .before .before)))
+
+put-form-requires : tie.Need-put-form-requires
+put-form-requires c κs =
+    let w = c .before .before .before .before .before .before .before .before .before .before .before .before .before .pre in
+    (w, omega (arith, first-line (c .before .before .before .before .before .before .before .before .before), goals-length _ w _ (le-refl _), w .goals-to))
+
+slice-aggregate-put-bytes : tie.Need-slice-aggregate-put-bytes
+slice-aggregate-put-bytes c = search needs
+
+put-bytes-requires : tie.Need-put-bytes-requires
+put-bytes-requires c κs =
+    let w = c .before .before .before .before .before .before .before .before .before .before .before .before .before .before .before .before .before .before .pre in
+    omega (arith, first-line (c .before .before .before .before .before .before .before .before .before .before .before .before .before .before), goals-length _ w _ (le-refl _), w .goals-to, form-limit _ w)
+
+same-length : tie.Need-same-length
+same-length c = search needs
+
+returns : tie.Need-returns
+returns c =
+    let n = c .before .before .before .before .before .before .before .before .before .before .before .before .before .before .before .before .before .size-of .ensures .0 ∙ c .before .before .before .before .before .before .before .before .before .before .before .before .before .before .before .before .before .before .byte .ensures in
+    recast (top-parts _)
+    (then (then (then (recast (ap countLine n) (c .before .before .before .before .before .before .before .before .before .before .before .before .before .before .before .put-count .ensures)) (c .before .before .before .before .before .before .before .before .before .before .before .put-goals .ensures)) (c .before .before .before .before .before .before .before .put-form .ensures)) (c .before .before .put-bytes .ensures))
+
+pub put-top-spec : {M : Type 1} → statement M
+put-top-spec =
+    tie.close
+    (tie.spec
+    byte-requires
+    size-of-requires
+    put-count-requires
+    put-goals-requires
+    put-form-requires
+    slice-aggregate-put-bytes
+    put-bytes-requires
+    same-length
+    returns)
