@@ -49,16 +49,21 @@ fn say_four(q: Four) {
     say(b"\n");
 }
 
-// The bytes in hexadecimal, `-` where there are none.
-fn say_bytes(bytes: &[u8]) {
-    if bytes.len() == 0 {
-        say(b"-");
-    }
+// The bytes in hexadecimal.
+fn say_hex(bytes: &[u8]) {
     let mut i: usize = 0;
     while i < bytes.len() {
         io::print_hex(1, wide(bytes[i]), 2);
         i += 1;
     }
+}
+
+// The bytes in hexadecimal, `-` where there are none.
+fn say_bytes(bytes: &[u8]) {
+    if bytes.len() == 0 {
+        say(b"-");
+    }
+    say_hex(bytes);
 }
 
 fn say_text(bytes: &[u8]) {
@@ -185,6 +190,27 @@ fn run_waits(bytes: &[u8]) {
     }
 }
 
+// A part of an array, where it lies inside.
+fn say_part(bytes: &[u8], from: usize, end: usize) {
+    if from <= end {
+        if end <= bytes.len() {
+            say_hex(&bytes[from..end]);
+        }
+    }
+}
+
+// The sheet, in its three parts.
+fn run_sheet(bytes: &[u8]) {
+    let mut lines = [0u8; 2048];
+    let mut text = [0u8; 32768];
+    let parts = page::write(bytes, &mut lines, &mut text);
+    say(b"ok ");
+    say_part(&lines, 0, parts.top);
+    say_part(&text, 0, parts.mel);
+    say_part(&lines, parts.top, parts.end);
+    say(b"\n");
+}
+
 // A case that lends a buffer.
 fn run_writer(line: &[u8], bytes: &[u8], room: usize) {
     let mut space = [0u8; 32768];
@@ -215,6 +241,8 @@ fn run_first(line: &[u8], bytes: &[u8], number: u32) {
         run_order(bytes);
     } else if check::same(operation, b"text") {
         run_text(bytes, number);
+    } else if check::same(operation, b"sheet") {
+        run_sheet(bytes);
     }
 }
 

@@ -2,11 +2,10 @@ use borrow.Author.Needs.{needs}
 use Prim.Native.Nat.{_-_, _≤_}
 use native.Mathlib.Omega.{arith}
 use lib.ListN.{length}
-use Rattle.drafts.proofs.say_bytes.Statement.{statement}
-use Rattle.drafts.proofs.say_bytes.Tie as tie
-use Rattle.drafts.proofs.say_bytes.Reads as reads
-use Rattle.drafts.proofs.say_bytes.Lts as lts
-use Rattle.drafts.proofs.say.Reads as say-reads
+use Rattle.drafts.proofs.say_hex.Statement.{statement}
+use Rattle.drafts.proofs.say_hex.Tie as tie
+use Rattle.drafts.proofs.say_hex.Reads as reads
+use Rattle.drafts.proofs.say_hex.Lts as lts
 use Rattle.drafts.proofs.wide.Reads as wide-reads
 use Rattle.io.proofs.print_hex.Reads as print-hex-reads
 
@@ -15,14 +14,6 @@ Inv-loop bytes i₀ i = Unit {0}
 
 abbrev μ-loop : tie.MeasureT-loop
 μ-loop bytes i₀ i = length bytes - i
-
--- src/main.rt:55:13
-slice-aggregate-say : tie.Need-slice-aggregate-say Inv-loop μ-loop
-slice-aggregate-say c = search needs
-
--- src/main.rt:55:9
-say-requires : tie.Need-say-requires Inv-loop μ-loop
-say-requires c κs = search needs
 
 -- src/main.rt:58:5
 loop-holds : tie.Need-loop-holds Inv-loop μ-loop
@@ -56,14 +47,12 @@ loop-again c = tt
 returns : tie.Need-returns Inv-loop μ-loop
 returns c = search needs
 
-pub say-bytes-spec : {M : Type 1} → statement M
-say-bytes-spec =
+pub say-hex-spec : {M : Type 1} → statement M
+say-hex-spec =
     tie.close
     (tie.spec
     Inv-loop
     μ-loop
-    slice-aggregate-say
-    say-requires
     loop-holds
     shared-slice-read-wide
     wide-requires
