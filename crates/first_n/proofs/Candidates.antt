@@ -3,19 +3,19 @@ use mathlib.Core.Path.{_≡_, refl, sym, ap, ap₂, _∙_}
 use mathlib.Core.Bool.{Bool, true, false, not, _&&_, _||_, cond, true≢false, false≢true}
 use mathlib.Core.List.{List}
 use mathlib.Core.Option.{none, some}
-use Prim.Native.Nat.{ℕ, zero, suc, _+_, _<_, _≤_}
+use Prim.Native.Nat.{ℕ, suc, _+_, _<_, _≤_}
 use native.Mathlib.Numerals.{add-one}
 use native.Mathlib.Omega.{arith}
 use lib.Dec.{eqb}
 use lib.ListN.{getD}
 use borrow.Author.Tests.{eq-eqb, ne-eqb}
 use Rattle.logic.proofs.Bools.{is-false, and-l, and-r, not-true}
-use Rattle.sets.specs.Sets.{has, union, meet, without}
+use Rattle.sets.specs.Sets.{has, meet}
 use Rattle.sets.proofs.Laws.{has-union, has-meet, has-without, has-empty}
 use Rattle.graph.specs.Graph.{ahead, transposed}
 use Rattle.graph.proofs.Rows.{transposed-says}
 use Rattle.expression.specs.Expr.{N}
-use Rattle.expression.specs.Search.{Four, isN}
+use Rattle.expression.specs.Search.{isN}
 use Rattle.expression.proofs.Search.{is-n, n-is}
 use Rattle.expression.proofs.Bools.{or-false}
 use Rattle.first_n.specs.Candidates.{related, later, fourths, thirds, lasts}

@@ -1,9 +1,9 @@
 -- Two relations that agree on the goals have the same N and the same form; so the rows of a record's order settle what its order settles.
 use mathlib.Core.Path.{_≡_, refl, sym, ap, ap₂, _∙_}
-use mathlib.Core.Bool.{Bool, true, false}
+use mathlib.Core.Bool.{Bool}
 use mathlib.Core.List.{List}
 use mathlib.Core.Option.{Option, none, some}
-use Prim.Native.Nat.{ℕ, _≤_, _<_}
+use Prim.Native.Nat.{ℕ, _≤_}
 use Rattle.reading.specs.declared.Reading.the-variants.{Fine}
 use Rattle.reading.specs.Reading.{reading}
 use Rattle.fields.specs.Fields.{goalCount}
@@ -14,7 +14,7 @@ use Rattle.graph.proofs.Rows.{rows-say}
 use Rattle.expression.specs.Expr.{Expr, Goals, HouseForm, N, NoN, Order}
 use Rattle.expression.specs.Form.{form}
 use Rattle.expression.specs.Arrange.{Strict, formAny}
-use Rattle.expression.specs.Search.{Four, IsN, FirstN, firstN}
+use Rattle.expression.specs.Search.{Four, IsN, firstN}
 use Rattle.expression.specs.Text.{text}
 use Rattle.expression.proofs.Search.{not-found, none-found, found-first, first-found}
 use Rattle.expression.proofs.Theorems.{form-any, form-is, form-unique, order-strict}

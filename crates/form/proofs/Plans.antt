@@ -1,13 +1,12 @@
 -- When an answer and a buffer are what the plan says.
 use mathlib.Core.Path.{_≡_, refl, sym, ap, _∙_}
-use mathlib.Core.Bool.{Bool, true, false, cond}
+use mathlib.Core.Bool.{Bool, cond}
 use mathlib.Core.List.{List}
 use mathlib.Core.Option.{Option, none, some}
-use Prim.Native.Nat.{ℕ, _+_, _≤_, _<_}
+use Prim.Native.Nat.{ℕ, _≤_, _<_}
 use native.Mathlib.Omega.{arith}
 use lib.ListN.{length}
 use Rattle.text.specs.Text.{Wrote}
-use Rattle.text.specs.Lent.{fits, stored}
 use Rattle.text.proofs.Lent.{fits-le, fits-lt, stores, keeps}
 use Rattle.reading.specs.declared.Reading.{Reading}
 use Rattle.reading.specs.declared.Reading.the-variants as G
@@ -18,7 +17,7 @@ use Rattle.expression.specs.Search.{Four, firstN}
 use Rattle.expression.specs.Form.{form}
 use Rattle.expression.specs.Text as T
 use Rattle.order.specs.Order.{before}
-use Rattle.form.specs.Form.{Plan, refused, noForm, written, settled, started, plan, Values, refusal, thirteen, done, answer, filled, Enough, Estimated}
+use Rattle.form.specs.Form.{Plan, refused, noForm, written, settled, started, plan, refusal, thirteen, done, answer, filled, Estimated}
 
 module _ (p : Plan) (buf : List ℕ) where
   -- refused before the buffer is looked at

@@ -1,6 +1,6 @@
 -- All goals of an order as a set: what the writer of the form asks, and what it writes.
-use mathlib.Core.Path.{_≡_, refl, sym, ap, _∙_}
-use mathlib.Core.Bool.{Bool, true, false, false≢true}
+use mathlib.Core.Path.{_≡_, sym, ap, _∙_}
+use mathlib.Core.Bool.{true, false, false≢true}
 use mathlib.Core.List.{List}
 use mathlib.Core.Logic.{_↔_}
 use mathlib.Core.Option.{none}
@@ -13,7 +13,7 @@ use Rattle.sets.specs.Sets.{has, below}
 use Rattle.sets.proofs.Laws.{has-below}
 use Rattle.graph.specs.Graph.{ahead, transposed}
 use Rattle.graph.proofs.Rows.{transposed-says}
-use Rattle.expression.specs.Expr.{Goals, NoN}
+use Rattle.expression.specs.Expr.{Goals}
 use Rattle.expression.specs.Arrange.{Strict, formAny}
 use Rattle.expression.specs.Search.{firstN}
 use Rattle.expression.specs.Text.{text}

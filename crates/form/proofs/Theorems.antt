@@ -6,43 +6,38 @@
 -- specs/Demand.antt.
 pub use Rattle.order.proofs.Theorems.{before-is, before-order, before-closed}
 pub use Rattle.expression.proofs.Theorems.{first-n-is, no-n-is}
-use mathlib.Core.Path.{_≡_, refl, sym, ap, _∙_, subst}
+use mathlib.Core.Path.{_≡_, refl, sym, ap, _∙_}
 use mathlib.Core.Bool.{Bool, true, false, _||_, cond, true≢false}
 use mathlib.Core.List.{List, _++_}
-use mathlib.Core.Logic.{_⊎_, inl, inr, ⊎-elim, _↔_}
+use mathlib.Core.Logic.{inl, inr, _↔_}
 use mathlib.Core.Option.{Option, none, some}
-use Prim.Native.Nat.{ℕ, _≤_, _<_}
+use Prim.Native.Nat.{ℕ, _≤_}
 use native.Mathlib.Omega.{arith}
 use lib.Dec.{eqb}
 use lib.ListN.{length, drop}
 use borrow.Author.Tests.{eqb-true}
 use Rattle.logic.proofs.Bools.{iff, is-false, or-elim}
 use Rattle.text.specs.Text.{pickText}
-use Rattle.text.specs.Lent.{fits, stored}
+use Rattle.text.specs.Lent.{stored}
 use Rattle.text.proofs.Lent.{fits-le}
 use Rattle.fields.specs.Fields.{goalCount}
-use Rattle.reading.specs.declared.Reading.the-variants.{Fine}
-use Rattle.reading.specs.Reading.{reading}
 use Rattle.record.specs.WellFormed.{WellFormed}
 use Rattle.record.proofs.WellFormed.{well-formed-fine}
 use Rattle.order.specs.Order as O
 use Rattle.order.proofs.Theorems as O′
 use Rattle.expression.specs.Expr as E
-use Rattle.expression.specs.Expr.{Expr, Goals, UsesOnce, UsesFour, House, HouseForm, N, NoN, times, stands, Once}
+use Rattle.expression.specs.Expr.{Expr, UsesOnce, HouseForm, N, times, stands, Once}
 use Rattle.expression.specs.Induced as I
-use Rattle.expression.specs.Search.{Four, NotAfter, IsN, firstN}
+use Rattle.expression.specs.Search.{Four, IsN, firstN}
 use Rattle.expression.specs.Form.{form}
 use Rattle.expression.specs.Text.{text}
 use Rattle.expression.proofs.Search.{found-first, not-found}
 use Rattle.expression.proofs.Spec.{stands-in, in-times, cond-le}
 use Rattle.expression.proofs.Theorems as E′
 use Rattle.expression.proofs.Theorems.{uses-once, order-no-n, no-four, n-distinct, form-is, form-unique, text-fits}
-use Rattle.form.specs.Form.{Plan, noForm, written, settled, plan, refusal, thirteen, done, answer, filled}
-use Rattle.form.specs.Demand.{HasOrder, Expresses, FourGoals, OneOf, ExpressesFour, NoForm, HasForm, Demand}
+use Rattle.form.specs.Form.{Plan, noForm, written, settled, plan, filled}
+use Rattle.form.specs.Demand.{Expresses, FourGoals, OneOf, ExpressesFour, NoForm, HasForm, Demand}
 use Rattle.form.proofs.Plans.{plan-fine, settled-none, settled-some, none-answer, none-buffer, short-answer, short-buffer, fit-answer}
-
-never : {A : Type 0} → _≡_ {A = Bool} true false → A
-never e = absurd (true≢false e)
 
 -- what is settled as "no form" is an N
 settled-found : (o : Option Four) (t : List ℕ) (q : Four) → settled o t ≡ noForm q → o ≡ some q

@@ -10,7 +10,7 @@ use Rattle.expression.specs.Expr.{Expr, UsesOnce, UsesFour, Goals, House}
 use Rattle.expression.specs.Induced as I
 use Rattle.expression.specs.Search.{Four, NotAfter}
 use Rattle.expression.specs.Text.{text}
-use Rattle.form.specs.Form.{Plan, noForm, written, plan, refusal, thirteen, done, answer, filled}
+use Rattle.form.specs.Form.{noForm, plan, refusal, thirteen, done, answer, filled}
 
 -- 01: "It has the record's order if, for all goals i and j, it induces i before j exactly when the record has i before j."
 abbrev pub HasOrder : List ℕ → Expr → Type 0

@@ -1,6 +1,6 @@
 -- Writing the form and the length estimate: what is answered, and what becomes of the lent buffer (01, "What each operation turns down").
 use mathlib.Core.Path.{_≡_}
-use mathlib.Core.Bool.{Bool, cond}
+use mathlib.Core.Bool.{cond}
 use mathlib.Core.List.{List}
 use mathlib.Core.Option.{Option, none, some}
 use Prim.Native.Nat.{ℕ, _≤_}

@@ -2,13 +2,11 @@
 use mathlib.Core.Path.{_≡_, refl, sym, ap, _∙_}
 use mathlib.Core.Bool.{Bool, true, false, not, _&&_, _||_, true≢false, false≢true}
 use Prim.Native.Nat.{ℕ, zero, suc, _^_, _≤_, _<_}
-use native.Mathlib.Nat.{lt-of-not-le}
 use native.Mathlib.Omega.{arith}
-use lib.Dec.{eqb}
 use borrow.Author.Tests.{eq-eqb, eqb-true}
 use Rattle.logic.proofs.Bools.{iff, and-l, and-r, and-i, not-true}
 use Rattle.sets.specs.Sets.{has, union, meet, without, single, first, count}
-use Rattle.sets.proofs.Laws.{has-union, has-meet, has-without, has-single, has-empty, none-empty, member-below, first-least, first-member, ext}
+use Rattle.sets.proofs.Laws.{has-union, has-meet, has-without, has-single, has-empty, member-below, first-least, first-member, ext}
 use Rattle.sets.proofs.Members.{first-in, count-less}
 use Rattle.sets.proofs.Builder.{members-lt}
 use Rattle.graph.specs.Graph.{hasGoal}

@@ -1,17 +1,16 @@
 -- Laws of rows: what the rows of a relation have, and that nothing else has it.
 use mathlib.Core.Path.{_≡_, refl, sym, ap, _∙_, subst}
-use mathlib.Core.Bool.{Bool, true, false, _&&_, cond}
+use mathlib.Core.Bool.{Bool, true, false, cond}
 use mathlib.Core.List.{List}
 use mathlib.Core.Logic.{dite}
 use Prim.Native.Nat.{ℕ, zero, suc, _+_, _^_, _≤_, _<_}
 use native.Mathlib.Numerals.{add-one}
-use native.Mathlib.Nat.{lt-of-lt-of-le}
 use native.Mathlib.Decide.{decLt}
 use native.Mathlib.Omega.{arith}
 use lib.ListN.{length, getD, replicate, length-replicate, getD-replicate}
-use lib.Pow.{pow-pos, pow-mono}
+use lib.Pow.{pow-pos}
 use Rattle.sets.specs.Sets.{has, union, single, setOf}
-use Rattle.sets.proofs.Laws.{has-empty, has-above}
+use Rattle.sets.proofs.Laws.{has-above}
 use Rattle.sets.proofs.Builder.{setOf-lt, has-setOf-in, setOf-ext, setOf-more}
 use Rattle.arrays.proofs.Table.{table-length, table-at, table-past, table-ext}
 use Rattle.arrays.specs.Table.{table}

@@ -1,8 +1,7 @@
 -- The form of a set, and one step of taking off a member.
 use mathlib.Core.Path.{_≡_, refl, sym, ap, _∙_, subst}
-use mathlib.Core.Bool.{Bool, true, false, not, _||_, true≢false, false≢true}
+use mathlib.Core.Bool.{Bool, true, false, false≢true}
 use mathlib.Core.List.{List}
-use mathlib.Core.Logic.{_⊎_, inl, inr, ⊎-elim}
 use Prim.Native.Nat.{ℕ, zero, suc, _^_, _≤_, _<_}
 use native.Mathlib.Omega.{arith}
 use lib.Dec.{eqb}
@@ -12,15 +11,15 @@ use Rattle.sets.specs.Sets.{without, single, first, count}
 use Rattle.sets.proofs.Laws.{member-below, ext}
 use Rattle.graph.specs.Graph.{hasGoal, ahead}
 use Rattle.graph.proofs.Goals.{goal-none, goal-single, single-goal, Part, part-lt, left-out, part-less, lowest-has, lowest-least}
-use Rattle.expression.specs.Expr.{Expr, goal, join, Members, one, more, Goals, NoJoin, NoN}
+use Rattle.expression.specs.Expr.{Expr, goal, join, Members, one, more, Goals, NoJoin}
 use Rattle.expression.specs.Form.{chosen, upFrom}
 use Rattle.expression.specs.Arrange.{Strict}
-use Rattle.expression.specs.Split.{tie, Component, Starts}
-use Rattle.expression.proofs.Bools.{test, not-self}
+use Rattle.expression.specs.Split.{Component, Starts}
+use Rattle.expression.proofs.Bools.{not-self}
 use Rattle.expression.proofs.Exists.{Form, form-set, chosen-goals}
 use Rattle.expression.proofs.Arrange.{form-list-any, up-distinct, chosen-distinct}
-use Rattle.expression.proofs.Split.{FormM, form-eq, Without, form-members, Peeled, final, further, peel-at, no-group, is-group, is-goal, is-sequence}
-use Rattle.split.specs.Split.{Has, Turned, Ordered, formOf}
+use Rattle.expression.proofs.Split.{FormM, form-eq, Peeled, final, further, peel-at, no-group, is-group, is-goal, is-sequence}
+use Rattle.split.specs.Split.{Has, Ordered, formOf}
 use Rattle.split.specs.Hang.{behind}
 use Rattle.split.proofs.Grow.{without-l, without-r, without-i, clash}
 

@@ -1,15 +1,14 @@
 -- The loop that grows the part of a set that hangs together with a goal: `left` is what is not yet in it, `todo` what is in it and whose neighbours are
 -- not yet looked at.
 use mathlib.Core.Path.{_≡_, refl, sym, ap, ap₂, _∙_, subst, subst₂}
-use mathlib.Core.Bool.{Bool, true, false, not, _&&_, _||_, cond, true≢false, false≢true}
+use mathlib.Core.Bool.{Bool, true, false, not, _||_, cond, true≢false}
 use mathlib.Core.List.{List}
 use mathlib.Core.Logic.{_⊎_, inl, inr, ⊎-elim}
-use Prim.Native.Nat.{ℕ, zero, suc, _^_, _≤_, _<_}
-use native.Mathlib.Omega.{arith}
+use Prim.Native.Nat.{ℕ, suc, _^_, _<_}
 use lib.Dec.{eqb}
 use lib.ListN.{getD}
 use borrow.Author.Tests.{eqb-true, eq-eqb, ne-eqb}
-use Rattle.logic.proofs.Bools.{and-l, and-r, and-i, or-elim, or-l, or-r, not-true, not-i, is-false}
+use Rattle.logic.proofs.Bools.{and-l, and-r, and-i, or-elim, or-l, or-r, not-true, is-false}
 use Rattle.sets.specs.Sets.{union, meet, without, single, first, count}
 use Rattle.sets.proofs.Laws.{first-member}
 use Rattle.sets.proofs.Members.{first-in}

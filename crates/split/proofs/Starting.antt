@@ -1,8 +1,8 @@
 -- A goal of the first member: the lowest, and for a sequence from there back to a goal that none comes before.
 use mathlib.Core.Path.{_≡_, refl, sym, ap, _∙_, subst}
-use mathlib.Core.Bool.{Bool, true, false, _&&_, cond, true≢false, false≢true}
+use mathlib.Core.Bool.{Bool, true, false, cond}
 use mathlib.Core.List.{List}
-use Prim.Native.Nat.{ℕ, zero, suc, _^_, _≤_, _<_}
+use Prim.Native.Nat.{ℕ, suc, _^_, _≤_, _<_}
 use lib.ListN.{getD}
 use Rattle.logic.proofs.Bools.{and-l, and-r, and-i, is-false}
 use Rattle.sets.specs.Sets.{meet, first, count}

@@ -2,7 +2,7 @@
 use mathlib.Core.Path.{_≡_, refl, sym, ap, ap₂, _∙_, subst}
 use mathlib.Core.Bool.{Bool, true, false, cond}
 use mathlib.Core.List.{List, [], _∷_, _++_, append-assoc, append-nil}
-use mathlib.Core.Logic.{_⊎_, inl, inr, ⊎-elim}
+use mathlib.Core.Logic.{_⊎_, inl, inr}
 use Prim.Native.Nat.{ℕ, suc, _+_, _/_, _%_, _^_, _≤_, _<_}
 use native.Mathlib.Omega.{arith}
 use lib.Dec.{ltb}
@@ -11,8 +11,8 @@ use Rattle.sets.specs.Sets.{without, first, count}
 use Rattle.text.specs.Text.{Wrote, decimal, only, pickText}
 use Rattle.text.proofs.Laws.{then, Left, start, onward, finish, left-kept}
 use Rattle.graph.specs.Graph.{hasGoal, ahead}
-use Rattle.graph.proofs.Goals.{goal-none, Part, lowest-in, lowest-has}
-use Rattle.expression.specs.Expr.{Expr, goal, join, Members, one, more}
+use Rattle.graph.proofs.Goals.{goal-none, Part}
+use Rattle.expression.specs.Expr.{Expr, goal, join, Members, more}
 use Rattle.expression.specs.Split.{Component, Starts}
 use Rattle.expression.specs.Text.{number, mark, inner, run, text}
 use Rattle.expression.proofs.Exists.{Form}

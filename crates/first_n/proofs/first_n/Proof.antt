@@ -1,13 +1,13 @@
 use borrow.Author.Needs.{needs}
 use native.Mathlib.Omega.{arith}
-use mathlib.Core.Path.{_≡_, refl, sym, ap, ap₂, _∙_}
+use mathlib.Core.Path.{_≡_, sym, ap, _∙_}
 use mathlib.Core.Logic.{⊎-elim}
 use Prim.Native.Nat.{ℕ, suc, _-_}
 use Rattle.graph.specs.Graph.{ahead}
 use Rattle.sets.specs.Sets.{has}
 use Rattle.sets.proofs.Laws.{first-least}
 use Rattle.first_n.specs.Found.{found}
-use Rattle.first_n.specs.declared.Found.the-variants.{Nothing, At}
+use Rattle.first_n.specs.declared.Found.the-variants.{Nothing}
 use Rattle.first_n.proofs.Scan.{Passed, passed-none, passed-more, passed-hit, passed-all, passed-skip}
 use Rattle.first_n.proofs.Loops.{atD, atC, atB, atA}
 use Rattle.first_n.proofs.Candidates.{miss, hit, miss-c}

@@ -1,6 +1,5 @@
 use borrow.Author.Needs.{needs}
-use native.Mathlib.Omega.{arith}
-use mathlib.Core.Path.{_≡_, refl, sym, ap, ap₂, _∙_}
+use mathlib.Core.Path.{ap₂, _∙_}
 use Rattle.sets.specs.Sets.{without}
 use Rattle.first_n.specs.Candidates.{fourths}
 use borrow.Author.Needs.{needs}

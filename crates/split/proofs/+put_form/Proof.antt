@@ -1,18 +1,18 @@
 use borrow.Author.Needs.{needs}
 use native.Mathlib.Omega.{arith}
-use mathlib.Core.Path.{_≡_, refl, sym, ap, ap₂, _∙_, subst}
-use Prim.Native.Nat.{suc, _+_, _-_, _^_, _≤_}
+use mathlib.Core.Path.{_≡_, sym, ap, _∙_, subst}
+use Prim.Native.Nat.{suc, _+_, _^_}
 use lib.Dec.{eqb}
 use mathlib.Core.Bool.{false}
 use lib.ListN.{length, length-append}
 use Rattle.sets.specs.Sets.{count, first, single}
-use Rattle.text.specs.Text.{Wrote, only}
+use Rattle.text.specs.Text.{only}
 use Rattle.text.proofs.Laws.{then, recast, kept}
 use Rattle.expression.specs.Expr.{Expr, goal, Members, join}
 use Rattle.expression.specs.Split.{Component}
 use Rattle.graph.specs.Graph.{hasGoal, ahead}
 use Rattle.graph.proofs.Goals.{part-lt, lowest-in, lowest-has}
-use Rattle.split.specs.Split.{Has, Ordered, formOf, formText}
+use Rattle.split.specs.Split.{Has, Ordered, formOf}
 use Rattle.split.proofs.Forms.{ordered-part, ordered-behind, form-of, form-goal, form-join}
 use Rattle.split.proofs.Writing.{Going, body, text-goal, text-join, go-start, go-end, Step, step, some-goal}
 use Prim.Native.Nat.{ℕ, _<_}

@@ -1,7 +1,6 @@
 use borrow.Author.Needs.{needs}
 use native.Mathlib.Omega.{arith}
-use mathlib.Core.Path.{_≡_, refl, sym, ap, ap₂, _∙_}
-use Prim.Native.Nat.{ℕ, suc, _+_, _-_, _^_, _<_, _≤_}
+use Prim.Native.Nat.{_^_, _<_}
 use Rattle.sets.specs.Sets.{union, count}
 use Rattle.split.proofs.Grow.{Growing, grow-begin, pick-under, grow-step, grow-done}
 use Rattle.split.proofs.component.Statement.{statement}

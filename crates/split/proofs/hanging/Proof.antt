@@ -1,4 +1,4 @@
-use mathlib.Core.Path.{_≡_, refl, sym, ap, ap₂, _∙_}
+use mathlib.Core.Path.{_∙_}
 use Rattle.split.proofs.Grow.{hanging-sequence, hanging-group}
 use borrow.Author.Needs.{needs}
 use Rattle.split.proofs.hanging.Statement.{statement}

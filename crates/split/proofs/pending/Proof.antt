@@ -1,4 +1,3 @@
-use mathlib.Core.Path.{_≡_, refl, sym, ap, ap₂, _∙_}
 use Rattle.split.proofs.Grow.{pending-none, pending-some}
 use Rattle.split.proofs.pending.Statement.{statement}
 use Rattle.split.proofs.pending.Tie as tie

@@ -1,7 +1,6 @@
 use borrow.Author.Needs.{needs}
 use native.Mathlib.Omega.{arith}
-use mathlib.Core.Path.{_≡_, refl, sym, ap, ap₂, _∙_}
-use Prim.Native.Nat.{ℕ, suc, _+_, _-_, _^_, _<_, _≤_}
+use Prim.Native.Nat.{_^_, _<_}
 use Rattle.sets.specs.Sets.{count}
 use Rattle.graph.proofs.Goals.{lowest-in}
 use Rattle.split.proofs.Starting.{Tried, try-begin, try-step, step-under, tried}
