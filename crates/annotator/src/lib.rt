@@ -101,7 +101,10 @@ pub fn find_text(bytes: &[u8], goal: u32) -> TextAnswer
                 let length = fields::text_length(bytes, g);
                 return TextAnswer::At(Span { place, length });
             }
-            TextAnswer::NoText(Refusal { number: 14, place: 0 })
+            TextAnswer::NoText(Refusal {
+                number: 14,
+                place: 0,
+            })
         }
     }
 }

@@ -1,0 +1,50 @@
+-- What settles an answer with little to compute: the waits of a record settle its plan, and its annotation's text the call that writes it.
+use mathlib.Core.Path.{_≡_, sym, ap, ap₂, _∙_}
+use mathlib.Core.Bool.{Bool}
+use mathlib.Core.List.{List, _++_}
+use Prim.Native.Nat.{ℕ, _≤_}
+use native.Mathlib.Omega.{arith}
+use lib.ListN.{length, drop}
+use Rattle.graph.specs.Graph.{ahead, rowsOf}
+use Rattle.graph.proofs.Rows.{rows-say}
+use Rattle.reading.specs.declared.Reading.the-variants.{Fine}
+use Rattle.reading.specs.Reading.{reading}
+use Rattle.fields.specs.Fields.{goalCount}
+use Rattle.record.proofs.WellFormed.{fine-well-formed}
+use Rattle.expression.specs.Expr.{Goals}
+use Rattle.expression.specs.Closure.{closed}
+use Rattle.expression.specs.Arrange.{formAny}
+use Rattle.expression.specs.Search.{firstN}
+use Rattle.expression.specs.Text.{text}
+use Rattle.expression.proofs.Closure.{closed-agree}
+use Rattle.order.specs.Order.{waits, before}
+use Rattle.order.proofs.Theorems.{before-order}
+use Rattle.form.specs.Form.{settled, plan}
+use Rattle.form.proofs.Plans.{plan-fine}
+use Rattle.form.proofs.Orders.{settled-same}
+use Rattle.mel.specs.Annotation as M
+use Rattle.mel.proofs.Theorems.{length-enough}
+use Rattle.starred.specs.Drafts.{Answer, annotates, melOf, room}
+
+module _ (b : List ℕ) (fine : reading b ≡ Fine) where
+  -- of a record with the waits W
+  pub planned : (W : ℕ → ℕ → Bool) → rowsOf (goalCount b) (waits b) ≡ rowsOf (goalCount b) W
+      → plan b ≡ settled (firstN (closed W (goalCount b)) (goalCount b)) (text (formAny (closed W (goalCount b)) (goalCount b)))
+  unfolding before
+  planned W e =
+      plan-fine b fine ∙ sym (settled-same (closed W (goalCount b)) (before b) (goalCount b) agree (fine-well-formed b fine .goals-from) (before-order b))
+    where
+      waits-agree : (i j : ℕ) → Goals (goalCount b) i → Goals (goalCount b) j → W i j ≡ waits b i j
+      waits-agree i j p q =
+          let h = fine-well-formed b fine .goals-to in
+          sym (rows-say (goalCount b) W i j h (p .0) (p .1) (q .0) (q .1)) ∙ ap (λ (r : List ℕ). ahead r i j) (sym e)
+          ∙ rows-say (goalCount b) (waits b) i j h (p .0) (p .1) (q .0) (q .1)
+
+      agree : (i j : ℕ) → Goals (goalCount b) i → Goals (goalCount b) j → closed W (goalCount b) i j ≡ before b i j
+      agree i j p q = closed-agree W (waits b) (goalCount b) waits-agree (goalCount b) (omega arith) i j p q
+
+  -- of a record whose annotation is t
+  pub annotated : (t : List ℕ) → M.mel b ≡ t → length t ≤ length room → melOf b ≡ annotates (M.done (length t)) (t ++ drop (length t) room)
+  annotated t e h =
+      let w = length-enough b room (fine-well-formed b fine) (omega (arith, h, ap length e)) in
+      ap₂ annotates (w .0 ∙ ap (λ (u : List ℕ). M.done (length u)) e) (w .1 ∙ ap (λ (u : List ℕ). u ++ drop (length u) room) e)
