@@ -10,7 +10,6 @@ use lib.Seq.{take-append-seam}
 use borrow.Author.Tests.{le-leb, lt-leb, leb-true, leb-false}
 use Rattle.text.specs.Text.{pickText, pickBool, someTexts, decimal, only, joinFrom, some}
 use Rattle.text.specs.Lent.{fits, stored}
-use Rattle.text.proofs.Lent.{fits-le, keeps}
 use Rattle.text.proofs.Laws.{join-step, join-append}
 use Rattle.fields.specs.Fields.{goalCount, goalSet}
 use Rattle.refusal.specs.declared.Refusal.{Refusal}

@@ -3,7 +3,7 @@ use mathlib.Core.Path.{_≡_, refl, sym, ap, ap₂, _∙_}
 use mathlib.Core.Bool.{Bool, true, false, cond}
 use mathlib.Core.List.{List, [], _∷_, _++_}
 use mathlib.Core.Option.{Option, none, some}
-use Prim.Native.Nat.{ℕ, _+_, _/_, _%_, _≤_, _<_}
+use Prim.Native.Nat.{ℕ, _+_, _/_, _%_, _≤_}
 use native.Mathlib.Omega.{arith}
 use lib.Dec.{ltb}
 use lib.ListN.{length, take, drop, length-append}
@@ -11,17 +11,15 @@ use lib.Seq.{take-append-seam}
 use Rattle.text.specs.Text.{pickText}
 use Rattle.text.specs.Numeral.{numeral}
 use Rattle.text.proofs.Numerals.{numeral-length}
-use Rattle.text.specs.Lent.{fits, stored}
+use Rattle.text.specs.Lent.{stored}
 use Rattle.text.proofs.Lent.{fits-le}
 use Rattle.fields.specs.Fields.{goalCount}
-use Rattle.reading.specs.declared.Reading.the-variants.{Fine}
-use Rattle.reading.specs.Reading.{reading}
 use Rattle.refusal.specs.declared.Refusal.{Refusal}
 use Rattle.record.specs.WellFormed.{WellFormed}
 use Rattle.record.proofs.WellFormed.{well-formed-fine}
 use Rattle.order.specs.Order.{before}
 use Rattle.order.proofs.Theorems.{before-order}
-use Rattle.expression.specs.Expr.{Expr, goal, join, Members, one, more}
+use Rattle.expression.specs.Expr.{Expr, goal, join}
 use Rattle.expression.specs.Search.{Four, IsN, firstN}
 use Rattle.expression.specs.Form.{form}
 use Rattle.expression.specs.Text.{number, mark, inner, run, text}

@@ -1,16 +1,15 @@
 -- The whole sheet in its three parts, and its length without the MEL text.
-use mathlib.Core.Path.{_≡_, refl, sym, ap, ap₂, _∙_}
+use mathlib.Core.Path.{_≡_, sym, ap, ap₂, _∙_}
 use mathlib.Core.Bool.{Bool, true, false, cond}
 use mathlib.Core.List.{List, [], _∷_, _++_, append-assoc, append-nil}
-use Prim.Native.Nat.{ℕ, _+_, _-_, _^_, _≤_, _<_}
+use Prim.Native.Nat.{ℕ, _+_, _-_, _≤_}
 use native.Mathlib.Omega.{arith}
 use lib.Dec.{leb}
 use lib.ListN.{length, take, drop, length-append}
 use lib.Seq.{take-at, drop-at, length-sets}
 use Rattle.text.specs.Text.{Wrote}
-use Rattle.text.specs.Numeral.{numeral}
 use Rattle.text.proofs.Numerals.{numeral-length}
-use Rattle.text.proofs.Laws.{stands, recast}
+use Rattle.text.proofs.Laws.{stands}
 use Rattle.fields.specs.Fields.{goalCount}
 use Rattle.reading.specs.declared.Reading.{Reading}
 use Rattle.reading.specs.declared.Reading.the-variants.{Fine, Refused}

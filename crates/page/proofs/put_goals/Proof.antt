@@ -1,13 +1,12 @@
-use mathlib.Core.Path.{_≡_, refl, sym, ap, _∙_}
-use Prim.Native.Nat.{ℕ, _+_, _-_, _≤_}
+use mathlib.Core.Path.{_≡_, ap, _∙_}
+use Prim.Native.Nat.{_+_, _-_, _≤_}
 use native.Mathlib.Omega.{arith}
 use denote.Ref.{now}
 use lib.ListN.{length, length-append}
 use borrow.Author.Needs.{needs}
 use Rattle.text.specs.Text.{Wrote}
-use Rattle.text.proofs.Laws.{none, then, recast, kept}
+use Rattle.text.proofs.Laws.{then, recast, kept}
 use Rattle.fields.specs.Fields.{byte, goalCount, placeAfter}
-use Rattle.record.proofs.Limits.{place-limit, text-inside}
 use Rattle.page.specs.Sheet.{goalLines, goalText}
 use Rattle.page.proofs.Lines.{goals-none, goals-step, place-first, place-step, goals-length, goal-inside}
 use Rattle.page.proofs.put_goals.Statement.{statement}

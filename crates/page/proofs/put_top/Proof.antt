@@ -1,11 +1,9 @@
-use mathlib.Core.Path.{_≡_, ap, _∙_}
-use Prim.Native.Nat.{ℕ, _≤_}
+use mathlib.Core.Path.{ap, _∙_}
+use Prim.Native.Nat.{_≤_}
 use native.Mathlib.Omega.{arith}
 use native.Mathlib.Nat.{le-refl}
-use denote.Ref.{now}
 use lib.ListN.{length}
 use Rattle.text.proofs.Laws.{then, recast}
-use Rattle.fields.specs.Fields.{goalCount}
 use Rattle.page.specs.Parts.{countLine}
 use Rattle.page.proofs.Lines.{digits, count-length, goals-length}
 use Rattle.page.proofs.Plans.{form-limit}

@@ -31,7 +31,7 @@ slice-aggregate-lines : tie.Need-slice-aggregate-lines
 slice-aggregate-lines c = search needs
 
 slice-aggregate-write-all : tie.Need-slice-aggregate-write-all
-slice-aggregate-write-all c = 
+slice-aggregate-write-all c =
     let w = c .before .before .before .before .write .ensures .0 in
     sym (length-take-le _ _ (le-trans (w .top-to) (w .end-to)))
 
