@@ -18,7 +18,7 @@ for path in sys.argv[1:]:
         question, mark, answer = line.partition(" = ")
         if not mark:
             sys.exit(f"{path}:{number}: no ` = ` in this line")
-        if len(question) > 8000:
+        if len(question) > 32000:
             sys.exit(f"{path}:{number}: the question is longer than the program's line")
         questions.append(line if question.startswith("length ") else question)
         answers.append(answer)

@@ -296,7 +296,7 @@ fn read_line(fd: i32, line: &mut [u8]) -> usize
 
 // Runs the next case of a file; answers whether there was one.
 fn run_next(fd: i32) -> bool {
-    let mut line = [0u8; 8192];
+    let mut line = [0u8; 32768];
     let n = read_line(fd, &mut line);
     if n == 0 {
         return false;

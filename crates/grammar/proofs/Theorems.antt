@@ -1,4 +1,5 @@
--- The theorems on expression texts. Every name in a statement is one of specs/, here or in `expression`.
+-- The theorems on expressions and their texts. Every name in a statement is one of specs/, here or in `expression`.
+--     T1 to T4      those of `expression`, passed on: sound, complete, unique, short
 --     T7            accepts, refuses, unambiguous: the reader decides the grammar
 --     T7, whole     read-text, read-16: what reading a text for n goals gives
 --     T8, a half    form-read, form-same: the text of a house form is read as that form, and the check calls it "same"
@@ -11,6 +12,7 @@ use Prim.Native.Nat.{ℕ, _≤_, _<_}
 use lib.ListN.{length}
 use Rattle.expression.specs.Expr.{Expr, UsesOnce, HasOrder, HouseForm, before}
 use Rattle.expression.specs.Text.{text}
+pub use Rattle.expression.proofs.Theorems.{order-no-n, induced-no-n, no-four, form-any, form-is, form-unique, text-fits, text-longest}
 use Rattle.grammar.specs.Grammar.{Text, BadAt}
 use Rattle.grammar.specs.Reader.{accepted, refused, read}
 use Rattle.grammar.specs.Reading.{refusal, answer, readText}
