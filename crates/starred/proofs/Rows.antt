@@ -24,7 +24,7 @@ use Rattle.form.proofs.Plans.{plan-fine}
 use Rattle.form.proofs.Orders.{settled-same}
 use Rattle.mel.specs.Annotation as M
 use Rattle.mel.proofs.Theorems.{length-enough}
-use Rattle.starred.specs.Drafts.{Answer, annotates, melOf, room}
+use Rattle.starred.specs.Drafts.{annotates, melOf, room}
 
 module _ (b : List ℕ) (fine : reading b ≡ Fine) where
   -- of a record with the waits W
