@@ -3,8 +3,8 @@
 
     tools/expectations.py CASES..        from the repository's root
 
-CASES are files of the conformance kit's format, `QUESTION = ANSWER` a line (kit/README.md): the paper's drafts, the readings
-and the vectors. The questions go to crates/drafts/data/cases.txt, the answers, and nothing that the program itself printed, to
+CASES are files of the conformance kit's format, `QUESTION = ANSWER` a line (kit/README.md): kit/cases/*.txt, whose answers come
+from the hand-written annotator of rust/compare, and kit/vectors/base.txt, whose answers come from an independent one. The questions go to crates/drafts/data/cases.txt, the answers, and nothing that the program itself printed, to
 crates/drafts/stdout. A question about the length estimate keeps its answer's bounds, between which the program's answer must lie.
 """
 import sys
