@@ -3,9 +3,11 @@
 
     tools/expectations.py CASES..        from the repository's root
 
-CASES are files of the conformance kit's format, `QUESTION = ANSWER` a line (kit/README.md): kit/cases/*.txt, whose answers come
-from the hand-written annotator of rust/compare, and kit/vectors/base.txt, whose answers come from an independent one. The questions go to crates/drafts/data/cases.txt, the answers, and nothing that the program itself printed, to
-crates/drafts/stdout. A question about the length estimate keeps its answer's bounds, between which the program's answer must lie.
+CASES are files of the conformance kit's format, `QUESTION = ANSWER` a line (kit/README.md): kit/cases/*.txt and kit/vectors/base.txt.
+The answers of drafts.txt come from the paper's text (tools/paper_drafts.py), those of base.txt from an independent annotator, those of
+the other files from the hand-written one of rust/compare. The questions go to crates/drafts/data/cases.txt, the answers, and nothing
+that the program itself printed, to crates/drafts/stdout. A question about the length estimate keeps its answer's bounds, between
+which the program's answer must lie.
 """
 import sys
 

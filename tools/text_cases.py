@@ -1,66 +1,33 @@
 #!/usr/bin/env python3
 """Writes crates/texts/stdin and crates/texts/stdout: texts to read, and what the paper and the vectors say of them.
 
-usage: text_cases.py VECTORS-FILE, from the repository's root.
-The expectation comes from the paper's drafts and from the ANSWER column of the `check` vectors whose record is accepted; never from the program.
+    tools/text_cases.py CASES..        from the repository's root
+
+CASES are files of the conformance kit's format (kit/README.md): kit/cases/drafts.txt, which tools/paper_drafts.py takes from the
+paper, kit/cases/readings.txt and kit/vectors/base.txt. The expectation is the answer of each `check` line whose record is accepted,
+never what the program printed: refusals 15 to 17 as they stand, and `read` for a text that got a verdict.
 """
 import sys
 
-# goals, text, answer: the paper's drafts, its limits, and READINGS 4 to 7
-DRAFTS = [
-    (2, '((1)),2', 'read'),
-    (2, '2&1', 'read'),
-    (2, '1,,2', 'refused 16 2'),
-    (2, '01', 'refused 16 0'),
-    (2, '1,1', 'refused 17 2'),
-    (2, '1', 'refused 17 1'),
-    (2, '', 'refused 15 0'),
-    (2, '1,1,,', 'refused 16 4'),
-    (2, '3,,', 'refused 16 2'),
-    (32, '33', 'refused 17 0'),
-    (32, '99', 'refused 17 0'),
-    (32, '100', 'refused 16 2'),
-    (2, '0', 'refused 16 0'),
-    (1, '((1))', 'read'),
-    (1, '(' * 32 + '1' + ')' * 32, 'read'),
-    (1, '(' * 33 + '1' + ')' * 33, 'refused 16 32'),
-    (1, '(' * 32 + '1' + ')' * 31, 'refused 16 64'),
-    (1, '1)', 'refused 16 1'),
-    (1, '1 ', 'refused 16 1'),
-]
 
-def padded(goals, length):
-    """The goals in sequence, with spare parentheses up to the length."""
-    parts = [str(g) for g in range(1, goals + 1)]
-    at = 0
-    while len(','.join(parts)) < length:
-        parts[at % goals] = '(' + parts[at % goals] + ')'
-        at += 1
-    return ','.join(parts)
-
-def cases(vectors):
-    yield from DRAFTS
-    full = padded(32, 512)
-    assert len(full) == 512
-    yield 32, full, 'read'
-    yield 32, full + ')', 'refused 15 0'
-    for line in open(vectors):
-        fields = line.split()
-        if fields[0] != 'check':
-            continue
-        record, text, answer = fields[2], fields[3], fields[5:]
-        if answer[0] == 'refused':
-            if int(answer[1]) < 15:
+def cases(paths):
+    for path in paths:
+        for line in open(path, encoding="ascii"):
+            question, _, answer = line.rstrip("\n").partition(" = ")
+            fields, said = question.split(), answer.split()
+            if fields[:1] != ["check"]:
                 continue
-            said = ' '.join(answer)
-        else:
-            said = 'read'
-        yield int(record[10:12], 16), bytes.fromhex('' if text == '-' else text).decode('latin-1'), said
+            _, _, record, text = fields
+            if said[0] != "refused":
+                answer = "read"
+            elif int(said[1]) < 15:
+                continue
+            yield int(record[10:12], 16), text, answer
 
-def main():
-    with open('crates/texts/stdin', 'w') as given, open('crates/texts/stdout', 'w') as wanted:
-        for goals, text, said in cases(sys.argv[1]):
-            given.write('%d %s\n' % (goals, text.encode('latin-1').hex() or '-'))
-            wanted.write(said + '\n')
 
-main()
+if len(sys.argv) < 2:
+    sys.exit(__doc__)
+with open("crates/texts/stdin", "w", encoding="ascii") as given, open("crates/texts/stdout", "w", encoding="ascii") as wanted:
+    for goals, text, said in dict.fromkeys(cases(sys.argv[1:])):
+        given.write(f"{goals} {text}\n")
+        wanted.write(said + "\n")

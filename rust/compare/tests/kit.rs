@@ -1,5 +1,5 @@
-//! The kit's files are those that `kit-cases` writes, and the hand-written annotator agrees
-//! with every one.
+//! The kit's files are those that `kit-cases` writes, and `drafts`, taken from the paper's text
+//! by tools/paper_drafts.py; the hand-written annotator agrees with every one.
 
 use compare::cases::{Reference, Tally, run};
 use compare::kit::files;
@@ -25,6 +25,14 @@ fn the_files_are_up_to_date() {
         );
         all += file.cases;
     }
-    assert_eq!(fs::read_dir(&folder).unwrap().count(), files.len());
+    assert_eq!(fs::read_dir(&folder).unwrap().count(), files.len() + 1);
     assert!(all >= 2000);
+}
+
+#[test]
+fn the_drafts_come_out_as_printed() {
+    let path = Path::new(env!("CARGO_MANIFEST_DIR")).join("../../kit/cases/drafts.txt");
+    let text = fs::read_to_string(path).unwrap();
+    let tally = run(&Reference, &text, |_, _, _, _| ()).unwrap();
+    assert!(tally.agree >= 40 && tally.differ == 0 && tally.skipped == 0, "{tally:?}");
 }

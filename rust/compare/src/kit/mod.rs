@@ -141,7 +141,6 @@ fn waiting(goals: usize, waits: &[(usize, usize)]) -> Parts {
 /// Every file of the kit.
 pub fn files() -> Vec<File> {
     let lines = vec![
-        paper::drafts(),
         paper::readings(),
         record::header(),
         record::goals(),

@@ -1,4 +1,4 @@
-//! The paper's drafts, the settled readings, the samples, and a mixture.
+//! The settled readings, the samples, and a mixture. (The paper's drafts: tools/paper_drafts.py.)
 
 use super::{Lines, waiting};
 use crate::build::Parts;
@@ -16,84 +16,9 @@ pub(super) fn whole_case() -> Parts {
     parts
 }
 
-/// Head {0,1}, goals {0,1}, {0,2}, {0}, {1,2}, no facts.
-fn of_document_003() -> Parts {
-    let mut parts = Parts::over(3, &[0b011, 0b101, 0b001, 0b110]);
-    parts.head = 0b011;
-    parts
-}
-
 fn no_form(goals: [u8; 4]) -> String {
     let [a, b, c, d] = goals;
     format!("refused 13 0 {a} {b} {c} {d}")
-}
-
-pub(super) fn drafts() -> Lines {
-    let mut lines =
-        Lines::new("drafts", "The draft clauses that the paper prints, and a few more.");
-    lines.note("the whole case, 67 bytes");
-    let sheet = "goals 3\n1 half\n2 edge\n3 join\nform (1&2),3\nmel (1&2),3\n";
-    let record = whole_case().record();
-    lines.expect(format!("sheet 0 {}", hex(&record)), &format!("ok {}", hex(sheet.as_bytes())));
-    lines.expect_form(&whole_case(), "(1&2),3");
-    lines.expect_mel(&whole_case(), "(1&2),3");
-
-    lines.note("one goal; goal count 0 or 33 is refusal 4");
-    lines.expect_form(&waiting(1, &[]), "1");
-    for count in [0, 33] {
-        let mut record = waiting(1, &[]).record();
-        record[5] = count;
-        lines.expect_read(&record, "refused 4 5");
-    }
-    lines.note("waits, given before closure, and the form");
-    lines.expect_form(&waiting(3, &[(1, 3)]), "(1,3)&2");
-    lines.expect_form(&waiting(3, &[(1, 2), (2, 3)]), "1,2,3");
-    lines.expect_form(&waiting(3, &[]), "1&2&3");
-    lines.expect_form(&waiting(4, &[(1, 3), (2, 3), (2, 4), (3, 4)]), "(1&2),3,4");
-    lines.expect_form(&waiting(3, &[(2, 3)]), "1&(2,3)");
-    lines.expect_form(&waiting(5, &[(2, 5), (3, 4)]), "1&(2,5)&(3,4)");
-    lines.expect_form(&waiting(4, &[(1, 3), (1, 4), (2, 4), (3, 4)]), "((1,3)&2),4");
-    lines.note("waits without a form: refusal 13 with its four goals");
-    for (waits, goals) in
-        [([(1, 3), (2, 3), (2, 4)], [1, 2, 3, 4]), ([(1, 3), (1, 4), (2, 4)], [2, 1, 4, 3])]
-    {
-        let record = waiting(4, &waits).record();
-        lines.expect(format!("form 0 {} 146", hex(&record)), &no_form(goals));
-        lines.expect(format!("length 0 {}", hex(&record)), &no_form(goals));
-    }
-    lines.note("the clause of document 003");
-    lines.expect_form(&of_document_003(), "1,2,3,4");
-    let mel = "(ground(v0)=>1&2),(indep(v0,v1),indep(v0,v2)=>3&4)";
-    lines.expect_mel(&of_document_003(), mel);
-    lines.note("head {0}, ground {0}, goals {0}, {0}");
-    let mut ground = Parts::over(1, &[1, 1]);
-    ground.ground = 1;
-    lines.expect_form(&ground, "1&2");
-    lines.expect_mel(&ground, "(1&2)");
-    lines.note("checks, where goal 1 is before goal 2");
-    let chain = waiting(2, &[(1, 2)]);
-    for (text, expected) in [
-        ("((1)),2", "same"),
-        ("2&1", "differs 1 2"),
-        ("1,,2", "refused 16 2"),
-        ("01", "refused 16 0"),
-        ("1,1", "refused 17 2"),
-        ("1", "refused 17 1"),
-    ] {
-        lines.expect_check(&chain, text, expected);
-    }
-    lines.note("a goal's text of 40 bytes is read, of 41 refused");
-    for (length, expected) in [(40, "ok"), (41, "refused 9 32")] {
-        let mut parts = waiting(1, &[]);
-        parts.goals[0].1 = vec![b'x'; length];
-        lines.expect_read(&parts.record(), expected);
-    }
-    lines.note("512 bytes of expression are read, 513 refused");
-    let text = padded(b"1&2&3&4&5&6&7&8&9&10", 512);
-    let ten = waiting(10, &[]);
-    assert_eq!(lines.check(&ten, &text), "same");
-    assert_eq!(lines.check(&ten, &[&text[..], b")"].concat()), "refused 15 0");
-    lines
 }
 
 pub(super) fn readings() -> Lines {
@@ -151,6 +76,11 @@ fn check_readings(lines: &mut Lines) {
     lines.expect_check(&chain, "0", "refused 16 0");
     lines.expect_check(&chain, "1,02", "refused 16 2");
     lines.expect_check(&chain, "10,20", "refused 17 0");
+    let full = Parts::longest_form();
+    lines.expect_check(&full, "33", "refused 17 0");
+    lines.expect_check(&full, "99", "refused 17 0");
+    lines.expect_check(&full, "100", "refused 16 2");
+    lines.expect_check(&full, "32", "refused 17 2");
     lines.note("spare parentheses count as open; the 33rd is 16 at its byte");
     let nested = |deep: usize| "(".repeat(deep) + "1" + &")".repeat(deep);
     let one = waiting(1, &[]);
