@@ -6,11 +6,11 @@ use Prim.Native.Nat.{ℕ, _^_, _<_}
 use Rattle.logic.specs.Quantifiers.{every, implies}
 use Rattle.logic.proofs.Bools.{iff, and-l, and-r, and-i, or-elim, or-l, or-r, not-out, implies-in, implies-out}
 use Rattle.logic.proofs.Quantifiers.{every-in, every-out}
-use Rattle.sets.specs.Sets.{has, union, without, subset}
+use Rattle.sets.specs.Sets.{has, union, without, subset, setOf}
 use Rattle.sets.proofs.Laws.{has-union, has-without, subset-has, has-subset, member-below}
 use Rattle.sets.proofs.Builder.{union-lt, without-lt, setOf-ext, has-setOf-in}
 use Rattle.judge.specs.Independence.{only, knownIndependent, independent}
-use Rattle.judge.specs.ByRows.{listedIn, common, waitsBy, clear, waitsGiven}
+use Rattle.judge.specs.ByRows.{listedIn, common, apart, waitsBy}
 use Rattle.judge.proofs.CommonRow.{listedAll, has-common, common-lt}
 
 -- of five, the first is left where the others are false
@@ -33,16 +33,14 @@ or-five false false false true t f = refl
 or-five false false false false true f = refl
 or-five false false false false false f = f refl
 
--- the test by masks
-pub given-subset : (w c b : ℕ) → b < 2 ^ w → not (subset b c) ≡ waitsGiven w c b
-unfolding waitsGiven
-given-subset w c b h =
-    ap not
-    (iff (subset b c) (every w (λ y. implies (has b y) (has c y)))
+-- each variable of b is in c, by masks
+subset-every : (w b c : ℕ) → b < 2 ^ w → subset b c ≡ every w (λ y. implies (has b y) (has c y))
+subset-every w b c h =
+    iff (subset b c) (every w (λ y. implies (has b y) (has c y)))
     (λ e. every-in w (λ y. implies (has b y) (has c y)) (λ y l. implies-in (has b y) (has c y) (λ q. subset-has b c e y q)))
     (λ e.
     has-subset b c
-    (λ y q. implies-out (has b y) (has c y) (every-out w (λ y. implies (has b y) (has c y)) e y (member-below w b y h q)) q)))
+    (λ y q. implies-out (has b y) (has c y) (every-out w (λ y. implies (has b y) (has c y)) e y (member-below w b y h q)) q))
 
 module _ (ground free : ℕ) (rows : List ℕ) (w a : ℕ) where
   known : ℕ → ℕ → Bool
@@ -52,8 +50,13 @@ module _ (ground free : ℕ) (rows : List ℕ) (w a : ℕ) where
   knownAll : ℕ → Bool
   knownAll y = every w (λ x. implies (has a x) (known x y))
 
-  has-clear : (y : ℕ) → y < w → has (clear ground free rows w a) y ≡ has ground y || (not (has a y) && knownAll y)
-  unfolding clear known knownAll
+  -- the clear variables: those that let a later goal be independent of a goal with the variable set a. They are the ground ones and, of those not in a,
+  -- the ones known independent of each variable of a.
+  clear : ℕ
+  clear = setOf w (λ y. has ground y || (not (has a y) && knownAll y))
+
+  has-clear : (y : ℕ) → y < w → has clear y ≡ has ground y || (not (has a y) && knownAll y)
+  unfolding clear
   has-clear y l = has-setOf-in w (λ y. has ground y || (not (has a y) && knownAll y)) y l
 
   -- a variable of a that is neither known ground nor known independent of every other
@@ -101,9 +104,8 @@ module _ (ground free : ℕ) (rows : List ℕ) (w a : ℕ) where
               (and-r (has a x) (not (has ground x || has free x)) s) g e)))
 
   -- the clear variables by masks
-  pub clear-masks : ground < 2 ^ w → free < 2 ^ w
-      → union ground (without (union free (common rows w (without a (union ground free)))) a) ≡ clear ground free rows w a
-  unfolding clear known knownAll bound
+  clear-masks : ground < 2 ^ w → free < 2 ^ w → union ground (without (union free (apart ground free rows w a)) a) ≡ clear
+  unfolding clear bound apart
   clear-masks hg hf =
       let all = common rows w bound in
       setOf-ext w (union ground (without (union free all) a)) (λ y. has ground y || (not (has a y) && knownAll y))
@@ -123,7 +125,7 @@ module _ (ground free : ℕ) (rows : List ℕ) (w a : ℕ) where
   module _ (b : ℕ) where
     -- each variable of the later goal is clear
     allClear : Bool
-    allClear = every w (λ y. implies (has b y) (has (clear ground free rows w a) y))
+    allClear = every w (λ y. implies (has b y) (has clear y))
 
     -- the later goal has clear variables alone exactly if the goals are independent
     independent-clear : allClear ≡ independent ground free (listedIn rows) w a b
@@ -166,13 +168,13 @@ module _ (ground free : ℕ) (rows : List ℕ) (w a : ℕ) where
             is : (y : ℕ) → y < w → has b y ≡ true → has ground y || (not (has a y) && knownAll y) ≡ true
             is y l e =
                 sym (has-clear y l)
-                ∙ implies-out (has b y) (has (clear ground free rows w a) y) (every-out w (λ y. implies (has b y) (has (clear ground free rows w a) y)) h y l) e
+                ∙ implies-out (has b y) (has clear y) (every-out w (λ y. implies (has b y) (has clear y)) h y l) e
 
         back : independent ground free (listedIn rows) w a b ≡ true → allClear ≡ true
         back h =
-            every-in w (λ y. implies (has b y) (has (clear ground free rows w a) y))
+            every-in w (λ y. implies (has b y) (has clear y))
             (λ y l.
-            implies-in (has b y) (has (clear ground free rows w a) y) (λ e. has-clear y l ∙ go y e l (has ground y) refl (has a y) refl))
+            implies-in (has b y) (has clear y) (λ e. has-clear y l ∙ go y e l (has ground y) refl (has a y) refl))
           where
             both : ℕ → Bool
             both x = implies (has a x && has b x) (has ground x)
@@ -204,6 +206,7 @@ module _ (ground free : ℕ) (rows : List ℕ) (w a : ℕ) where
                 (λ x lx. implies-in (has a x) (known x y) (λ p. apart x y lx l p e f (has b x) refl))))
 
     -- so it waits exactly if it has another
-    pub waits-clear : waitsGiven w (clear ground free rows w a) b ≡ waitsBy ground free rows w a b
-    unfolding waitsBy waitsGiven allClear
-    waits-clear = ap not independent-clear
+    pub waits-masks : ground < 2 ^ w → free < 2 ^ w → b < 2 ^ w
+        → not (subset b (union ground (without (union free (apart ground free rows w a)) a))) ≡ waitsBy ground free rows w a b
+    unfolding waitsBy allClear
+    waits-masks hg hf hb = ap not (ap (subset b) (clear-masks hg hf) ∙ subset-every w b clear hb ∙ independent-clear)

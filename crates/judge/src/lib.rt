@@ -17,19 +17,21 @@ fn common(set: u64, rows: &[u64; 64]) -> u64
     all
 }
 
-// The variables that let a later goal be independent of a goal with the variable set a. `ground` has the variables known ground, `free` those known
-// independent of every other, row x of `rows` those whose pair with x is listed.
-pub fn clear(a: u64, ground: u64, free: u64, rows: &[u64; 64]) -> u64
-    ensures { λ r. ⌜ r ≡ J.clear ground free (now (rows .entry)) 64 a ⌝ }
+// The variables listed with each variable of a that is neither ground nor independent of every other. `ground` has the variables known ground, `free` those
+// known independent of every other, row x of `rows` those whose pair with x is listed.
+pub fn apart(a: u64, ground: u64, free: u64, rows: &[u64; 64]) -> u64
+    ensures { λ r. ⌜ r ≡ J.apart ground free (now (rows .entry)) 64 a ⌝ }
 {
     let loose = sets::union(ground, free);
-    let apart = common(sets::without(a, loose), rows);
-    sets::union(ground, sets::without(sets::union(free, apart), a))
+    common(sets::without(a, loose), rows)
 }
 
-// Whether the later goal, with the variable set b, waits for the earlier one, whose clear variables are given.
-pub fn waits(clear: u64, b: u64) -> bool
-    ensures { λ r. ⌜ r ≡ J.waitsGiven 64 clear b ⌝ }
+// Whether the later goal, with the variable set b, waits for the earlier one, with the variable set a. `apart` is what the function `apart` gives for the
+// earlier goal: found once for all later goals.
+pub fn waits(a: u64, b: u64, ground: u64, free: u64, rows: &[u64; 64], apart: u64) -> bool
+    requires { ⌜ apart ≡ J.apart ground free (now rows) 64 a ⌝ }
+    ensures { λ r. ⌜ r ≡ J.waitsBy ground free (now (rows .entry)) 64 a b ⌝ }
 {
+    let clear = sets::union(ground, sets::without(sets::union(free, apart), a));
     !sets::subset(b, clear)
 }

@@ -11,8 +11,7 @@ use borrow.Author.Tests.{lt-ltb, le-ltb}
 use Rattle.sets.specs.Sets.{union, single}
 use Rattle.sets.proofs.Laws.{has-empty}
 use Rattle.sets.proofs.Builder.{setOf-ext, setOf-more}
-use Rattle.judge.specs.ByRows.{waitsBy, clear, waitsGiven}
-use Rattle.judge.proofs.ClearSet.{waits-clear}
+use Rattle.judge.specs.ByRows.{waitsBy}
 use Rattle.order.specs.Arrays.{waitsAt, waitRow}
 
 module _ (ground free : ℕ) (goals rows : List ℕ) (i : ℕ) where
@@ -27,12 +26,10 @@ module _ (ground free : ℕ) (goals rows : List ℕ) (i : ℕ) where
 
   -- one goal more
   pub row-more : (j : ℕ) → i < j
-      → cond (waitsGiven 64 (clear ground free rows 64 (getD goals i 0)) (getD goals j 0)) (union (waitRow ground free goals rows j i) (single j)) (waitRow ground free goals rows j i)
+      → (let row = waitRow ground free goals rows j i in cond (waitsBy ground free rows 64 (getD goals i 0) (getD goals j 0)) (union row (single j)) row)
       ≡ waitRow ground free goals rows (j + 1) i
   unfolding waitRow
   row-more j h =
       rw (add-one j)
-      (ap (λ (t : Bool). cond t (union (waitRow ground free goals rows j i) (single j)) (waitRow ground free goals rows j i))
-      (waits-clear ground free rows 64 (getD goals i 0) (getD goals j 0))
-      ∙ ap (λ (t : Bool). cond (t && waitsBy ground free rows 64 (getD goals i 0) (getD goals j 0)) (union (waitRow ground free goals rows j i) (single j)) (waitRow ground free goals rows j i)) (sym (lt-ltb i j h))
+      (ap (λ (t : Bool). cond (t && waitsBy ground free rows 64 (getD goals i 0) (getD goals j 0)) (union (waitRow ground free goals rows j i) (single j)) (waitRow ground free goals rows j i)) (sym (lt-ltb i j h))
       ∙ sym (setOf-more j (λ k. waitsAt ground free goals rows i k)))

@@ -26,11 +26,12 @@ fn wait_row(i: usize, n: usize, ground: u64, free: u64, goals: &[u64; 32], rows:
     requires { ⌜ (i < n) × (n ≤ 32) ⌝ }
     ensures { λ r. ⌜ r ≡ W.waitRow ground free (now (goals .entry)) (now (rows .entry)) n i ⌝ }
 {
-    let clear = judge::clear(goals[i], ground, free, rows);
+    let a = goals[i];
+    let apart = judge::apart(a, ground, free, rows);
     let mut row = 0;
     let mut j = i + 1;
     while j < n {
-        let waits = judge::waits(clear, goals[j]);
+        let waits = judge::waits(a, goals[j], ground, free, rows, apart);
         row = with(row, j, waits);
         j += 1;
     }

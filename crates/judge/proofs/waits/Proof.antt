@@ -1,20 +1,33 @@
+use borrow.Author.Needs.{needs}
 use mathlib.Core.Path.{ap, _∙_}
 use mathlib.Core.Bool.{not}
-use borrow.Author.Needs.{needs}
-use Rattle.judge.proofs.ClearSet.{given-subset}
+use Prim.Native.Nat.{ℕ}
+use denote.Ref.{now}
+use Rattle.sets.specs.Sets.{union, without, subset}
+use Rattle.judge.proofs.ClearSet.{waits-masks}
 use Rattle.judge.proofs.waits.Statement.{statement}
 use Rattle.judge.proofs.waits.Tie as tie
-use Rattle.judge.proofs.waits.Reads as reads
-use Rattle.judge.proofs.waits.Lts as lts
-use Rattle.sets.proofs.subset.Reads as subset-reads
 
--- src/lib.rt:36:6
+union-requires : tie.Need-union-requires
+union-requires c κs = search needs
+
+without-requires : tie.Need-without-requires
+without-requires c κs = search needs
+
+union-requires-2 : tie.Need-union-requires-2
+union-requires-2 c κs = search needs
+
 subset-requires : tie.Need-subset-requires
 subset-requires c κs = search needs
 
--- src/lib.rt:33:1
 returns : tie.Need-returns
-returns c = ap not (c .subset .ensures) ∙ given-subset 64 (c .before .args .clear) (c .before .args .b) (c .before .fits .b .fits)
+returns c =
+    let s = c .before .before .before .before in
+    let a = s .args in
+    let loose = c .before .before .before .union .ensures ∙ ap (union (a .free)) (s .pre) in
+    let clear = c .before .union2 .ensures ∙ ap (union (a .ground)) (c .before .before .without .ensures ∙ ap (λ (m : ℕ). without m (a .a)) loose) in
+    ap not (c .subset .ensures ∙ ap (subset (a .b)) clear)
+    ∙ waits-masks (a .ground) (a .free) (now (a .rows)) 64 (a .a) (a .b) (s .fits .ground .fits) (s .fits .free .fits) (s .fits .b .fits)
 
 pub waits-spec : {M : Type 1} → statement M
-waits-spec = tie.close (tie.spec subset-requires returns)
+waits-spec = tie.close (tie.spec union-requires without-requires union-requires-2 subset-requires returns)

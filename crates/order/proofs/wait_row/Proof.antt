@@ -9,27 +9,27 @@ use Rattle.order.proofs.wait_row.Statement.{statement}
 use Rattle.order.proofs.wait_row.Tie as tie
 use Rattle.order.proofs.wait_row.Reads as reads
 use Rattle.order.proofs.wait_row.Lts as lts
-use Rattle.judge.proofs.clear.Reads as clear-reads
+use Rattle.judge.proofs.apart.Reads as apart-reads
 use Rattle.judge.proofs.waits.Reads as waits-reads
 use Rattle.order.proofs.with.Reads as with-reads
 
 abbrev Inv-loop : tie.InvT-loop
-Inv-loop i n ground free goals rows clear row₀ j₀ row j = (i < j) × (j ≤ n) × (row ≡ waitRow ground free goals rows j i)
+Inv-loop i n ground free goals rows a apart row₀ j₀ row j = (i < j) × (j ≤ n) × (row ≡ waitRow ground free goals rows j i)
 
 abbrev μ-loop : tie.MeasureT-loop
-μ-loop i n ground free goals rows clear row₀ j₀ row j = n - j
+μ-loop i n ground free goals rows a apart row₀ j₀ row j = n - j
 
 -- src/lib.rt:23:13
-mul-clear : tie.Need-mul-clear Inv-loop μ-loop
-mul-clear c = search needs
+mul-a : tie.Need-mul-a Inv-loop μ-loop
+mul-a c = search needs
 
 -- src/lib.rt:23:13
-element-copy-out-clear : tie.Need-element-copy-out-clear Inv-loop μ-loop
-element-copy-out-clear c = search needs
+element-copy-out-a : tie.Need-element-copy-out-a Inv-loop μ-loop
+element-copy-out-a c = search needs
 
 -- src/lib.rt:23:17
-clear-requires : tie.Need-clear-requires Inv-loop μ-loop
-clear-requires c κs = search needs
+apart-requires : tie.Need-apart-requires Inv-loop μ-loop
+apart-requires c κs = search needs
 
 -- src/lib.rt:25:17
 add-j : tie.Need-add-j Inv-loop μ-loop
@@ -70,7 +70,7 @@ loop-again c =
     let l = c .before .before .before .before .loop in (
       omega arith,
       omega arith,
-      rw (c .with .ensures, c .before .waits .ensures, c .before .before .before .before .before .clear .ensures, l .inv .2) (row-more (a .ground) (a .free) (now (a .goals)) (now (a .rows)) (a .i) (l .j) (l .inv .0)),
+      rw (c .with .ensures, c .before .waits .ensures, l .inv .2) (row-more (a .ground) (a .free) (now (a .goals)) (now (a .rows)) (a .i) (l .j) (l .inv .0)),
     )
 
 -- src/lib.rt:19:1
@@ -87,9 +87,9 @@ wait-row-spec =
     (tie.spec
     Inv-loop
     μ-loop
-    mul-clear
-    element-copy-out-clear
-    clear-requires
+    mul-a
+    element-copy-out-a
+    apart-requires
     add-j
     loop-holds
     mul-waits
