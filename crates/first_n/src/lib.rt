@@ -40,6 +40,33 @@ fn later(rows: &[u32; 32], prior: &[u32; 32], i: usize) -> u32
     sets::without32(after, before)
 }
 
+// The goals that are before some goal.
+fn leading(prior: &[u32; 32], n: usize) -> u32
+    requires { ⌜ n ≤ 32 ⌝ }
+    ensures { λ r. ⌜ r ≡ C.leading (now (prior .entry)) n ⌝ }
+{
+    let mut set = 0u32;
+    for j in 0..n {
+        let before = prior[j];
+        set = sets::union32(set, before);
+    }
+    set
+}
+
+// The goals that can be b for a: of the leading ones those that are not a and not in order with a. None if no goal is later than a.
+fn seconds(rows: &[u32; 32], prior: &[u32; 32], lead: u32, a: usize) -> u32
+    requires { ⌜ a < 32 ⌝ }
+    ensures { λ r. ⌜ r ≡ C.seconds (now (rows .entry)) (now (prior .entry)) lead a ⌝ }
+{
+    if later(rows, prior, a) == 0 {
+        return 0;
+    }
+    let near_a = related(rows, prior, a);
+    let apart = sets::without32(lead, near_a);
+    let one = sets::single32(a);
+    sets::without32(apart, one)
+}
+
 // The goals that can be d for a, b and some c: later than b, and not in order with a.
 fn fourths(rows: &[u32; 32], prior: &[u32; 32], a: usize, b: usize) -> u32
     requires { ⌜ (a < 32) × (b < 32) ⌝ }
@@ -50,15 +77,11 @@ fn fourths(rows: &[u32; 32], prior: &[u32; 32], a: usize, b: usize) -> u32
     sets::without32(after_b, near_a)
 }
 
-// The goals that can be c for a and b: later than both. None if a and b are in order, or if no goal can be d.
+// The goals that can be c for a and b: later than both. None if no goal can be d.
 fn thirds(rows: &[u32; 32], prior: &[u32; 32], a: usize, b: usize) -> u32
     requires { ⌜ (a < 32) × (b < 32) ⌝ }
     ensures { λ r. ⌜ r ≡ C.thirds (now (rows .entry)) (now (prior .entry)) a b ⌝ }
 {
-    let near_a = related(rows, prior, a);
-    if sets::has32(near_a, b) {
-        return 0;
-    }
     if fourths(rows, prior, a, b) == 0 {
         return 0;
     }
@@ -83,21 +106,25 @@ pub fn first_n(rows: &[u32; 32], prior: &[u32; 32], n: usize) -> Found
     ensures { λ r. ⌜ F.found r ≡ firstN (ahead (now (rows .entry))) n ⌝ }
 {
     let mut answer = Found::Nothing;
+    let lead = leading(prior, n);
     'found: for a in 0..n {
-        for b in 0..n {
-            let cs = thirds(rows, prior, a, b);
-            for c in sets::first32(cs)..n {
-                if sets::has32(cs, c) {
-                    let ds = lasts(rows, prior, a, b, c);
-                    for d in sets::first32(ds)..n {
-                        if sets::has32(ds, d) {
-                            answer = Found::At(Four {
-                                a: a + 1,
-                                b: b + 1,
-                                c: c + 1,
-                                d: d + 1,
-                            });
-                            break 'found;
+        let bs = seconds(rows, prior, lead, a);
+        for b in sets::first32(bs)..n {
+            if sets::has32(bs, b) {
+                let cs = thirds(rows, prior, a, b);
+                for c in sets::first32(cs)..n {
+                    if sets::has32(cs, c) {
+                        let ds = lasts(rows, prior, a, b, c);
+                        for d in sets::first32(ds)..n {
+                            if sets::has32(ds, d) {
+                                answer = Found::At(Four {
+                                    a: a + 1,
+                                    b: b + 1,
+                                    c: c + 1,
+                                    d: d + 1,
+                                });
+                                break 'found;
+                            }
                         }
                     }
                 }

@@ -30,7 +30,11 @@ pub enum Estimate {
     Refused(Refusal),
 }
 
-// Writes the form of the goals 1 to n in the order that the rows say, any strict order; or refuses with 13, or with 12.
+// The length of the longest form of 32 goals.
+const LONGEST: usize = 146;
+
+// Writes the form of the goals 1 to n in the order that the rows say, any strict order; or refuses with 13, or with 12. A buffer that holds every form
+// needs no counting before the text is stored.
 fn write_rows(rows: &[u32; 32], n: usize, out: &mut [u8]) -> Written
     requires { ⌜ (1 ≤ n) × (n ≤ 32) × Strict (ahead (now rows)) (Goals n) ⌝ }
     ensures { λ r.
@@ -46,17 +50,19 @@ fn write_rows(rows: &[u32; 32], n: usize, out: &mut [u8]) -> Written
         Found::At(q) => Written::NoForm(q),
         Found::Nothing => {
             let all = sets::below32(n);
-            let mut nowhere = [0u8; 0];
-            let need = split::put_form(&mut nowhere, 0, rows, &prior, all, false);
             let room = out.len();
-            if room < need {
-                return Written::Refused(Refusal {
-                    number: 12,
-                    place: need,
-                });
+            if room < LONGEST {
+                let mut nowhere = [0u8; 0];
+                let need = split::put_form(&mut nowhere, 0, rows, &prior, all, false);
+                if room < need {
+                    return Written::Refused(Refusal {
+                        number: 12,
+                        place: need,
+                    });
+                }
             }
-            split::put_form(out, 0, rows, &prior, all, false);
-            Written::Done(need)
+            let end = split::put_form(out, 0, rows, &prior, all, false);
+            Written::Done(end)
         }
     }
 }

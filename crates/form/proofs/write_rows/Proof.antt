@@ -2,6 +2,7 @@ use borrow.Author.Needs.{needs}
 use native.Mathlib.Omega.{arith}
 use mathlib.Core.Path.{_≡_, sym, ap, _∙_}
 use mathlib.Core.Bool.{false}
+use mathlib.Core.Logic.{⊎-elim}
 use mathlib.Core.Option.{none}
 use Prim.Native.Nat.{_+_, _^_, _≤_, _<_}
 use lib.ListN.{length}
@@ -48,6 +49,11 @@ short c =
     let s = c .before .before .before .before .before .before .before in
     text-short _ _ _ _ (s .pre .0) (s .pre .1) (s .pre .2) (none-first c) (c .before .before .before .before .before .transposed .ensures) (c .below32 .ensures)
 
+-- where the text is stored the buffer has room for it: it was counted, or the buffer has room for every form
+fits : (c : tie.Joined1) → length (text (formAny (ahead (c .before .before .before .before .before .before .before .before .args .rows .now)) (c .before .before .before .before .before .before .before .before .args .n))) ≤ length (c .before .before .before .before .before .before .before .before .args .out .now)
+fits c =
+    ⊎-elim (λ w. omega (arith, w .3 .ensures .place, ap length (the-text (c .before)), w .5 .left)) (λ w. omega (arith, short (c .before), w .left)) (c .if1 .came)
+
 transposed-requires : tie.Need-transposed-requires
 transposed-requires c κs = search needs
 
@@ -67,18 +73,18 @@ slice-aggregate-put-form : tie.Need-slice-aggregate-put-form
 slice-aggregate-put-form c = search needs
 
 put-form-requires : tie.Need-put-form-requires
-put-form-requires c κs = asks (c .before .before)
+put-form-requires c κs = asks (c .before .before .before)
 
 returns : tie.Need-returns
 returns c =
-    let d = c .before .before .before .before .before in
+    let d = c .before .before .before .before .before .before in
     let e = settled-none _ (none-first d) in
     let place = c .before .before .put-form .ensures .place in
     let need : c .before .before .put-form .result ≡ length (text (formAny (ahead (d .before .before .before .before .before .before .before .args .rows .now)) (d .before .before .before .before .before .before .before .args .n))) = omega (arith, place, ap length (the-text d)) in
-    (short-answer _ _ _ e _ need (c .if1 .taken), short-buffer _ _ _ e (omega (arith, need, c .if1 .taken)))
+    (short-answer _ _ _ e _ need (c .if2 .taken), short-buffer _ _ _ e (omega (arith, need, c .if2 .taken)))
 
 put-form-requires-2 : tie.Need-put-form-requires-2
-put-form-requires-2 c κs = asks (c .before .before .before .before .before .before .before)
+put-form-requires-2 c κs = asks (c .before .before .before)
 
 returns-2 : tie.Need-returns-2
 returns-2 c =
@@ -90,12 +96,13 @@ same-length c = search needs
 
 returns-3 : tie.Need-returns-3
 returns-3 c =
-    let d = c .before .before .before .before .before .before .before .before .before .before in
+    let d = c .before .before .before .before .before .before in
     let e = settled-none _ (none-first d) in
-    let place = c .before .before .before .before .before .before .before .put-form .ensures .place in
-    let need : c .before .before .before .before .before .before .before .put-form .result ≡ length (text (formAny (ahead (d .before .before .before .before .before .before .before .args .rows .now)) (d .before .before .before .before .before .before .before .args .n))) = omega (arith, place, ap length (the-text d)) in (
-      fit-answer _ _ _ e _ need (omega (arith, c .before .before .before .before .before .if1 .left)),
-      fit-buffer _ _ _ e (recast (the-text d) (c .before .before .put-form2 .ensures)) (omega (arith, need, c .before .before .before .before .before .if1 .left)),
+    let w = c .before .before .put-form2 .ensures in
+    let need : c .before .before .put-form2 .result ≡ length (text (formAny (ahead (d .before .before .before .before .before .before .before .args .rows .now)) (d .before .before .before .before .before .before .before .args .n))) = omega (arith, w .place, ap length (the-text d)) in
+    let room = fits (c .before .before .before .before .before) in (
+      fit-answer _ _ _ e _ need (omega (arith, need, room)),
+      fit-buffer _ _ _ e (recast (the-text d) w) room,
     )
 
 pub write-rows-spec : {M : Type 1} → statement M
