@@ -1,26 +1,26 @@
 -- Two orders compared row by row: the goals that are in just one of two rows.
 use mathlib.Core.Path.{_≡_, refl, sym, ap, ap₂, _∙_, subst}
-use mathlib.Core.Bool.{Bool, true, false, not, _&&_, _||_, cond, Bool·beq}
+use mathlib.Core.Bool.{Bool, true, false, not, _&&_, _||_, cond, Bool·beq, true≢false}
 use mathlib.Core.List.{List}
 use mathlib.Core.Option.{Option, none, some}
 use Prim.Native.Nat.{ℕ, suc, _+_, _^_, _<_, _≤_}
 use native.Mathlib.Numerals.{add-one}
 use native.Mathlib.Omega.{arith}
 use native.Mathlib.Nat.{lt-of-lt-of-le}
-use lib.Dec.{ltb}
+use lib.Dec.{eqb, ltb}
 use lib.ListN.{getD}
 use lib.Pow.{pow-pos, pow-mono}
-use borrow.Author.Tests.{lt-ltb, ltb-true}
+use borrow.Author.Tests.{eqb-true, eq-eqb, ne-eqb, lt-ltb, ltb-true}
 use Rattle.logic.proofs.Bools.{and-l}
-use Rattle.sets.specs.Sets.{has, union, meet, without, below, first}
+use Rattle.sets.specs.Sets.{has, union, meet, without, below, single, first, setOf}
 use Rattle.sets.proofs.Laws.{has-union, has-meet, has-without, has-below, has-empty, first-least, first-member}
-use Rattle.sets.proofs.Builder.{meet-lt}
+use Rattle.sets.proofs.Builder.{meet-lt, has-setOf, setOf-lt, setOf-more}
 use Rattle.sets.proofs.Members.{first-in}
 use Rattle.graph.specs.Graph.{ahead, rowsOf}
 use Rattle.graph.proofs.Rows.{rows-say}
 use Rattle.expression.specs.Expr.{Expr, before}
 use Rattle.expression.specs.Search.{firstIn}
-use Rattle.first_n.proofs.Scan.{Passed, passed-more, passed-hit, passed-all, passed-skip, nowhere}
+use Rattle.first_n.proofs.Scan.{passed-hit, passed-skip, nowhere}
 use Rattle.grammar.specs.Reading.{refusal, answer, readText}
 use Rattle.grammar.specs.Check.{differ, firstDiffer}
 use Rattle.grammar.proofs.Differences.{differ-cong}
@@ -83,32 +83,79 @@ module _ (n : ℕ) (a b : List ℕ) where
         (ap (λ c. cond {A = Option (ℕ × ℕ)} c none (some (suc i, suc (first 32 x)))) (not-not (Bool·beq (has (getD a i 0) (first 32 x)) (has (getD b i 0) (first 32 x))) true (sym (odd-is n (getD a i 0) (getD b i 0) (first 32 x) l) ∙ here)))
         (passed-skip n f (first 32 x) (λ k m o. no-differ k o (first-least 32 x k m)))
 
-  -- ---- the loop: goals are the goals 1 to n
-  pub compare-end : (i : ℕ) → n ≤ i → Passed n row i → Same ≡ said (firstDiffer n (ahead a) (ahead b))
-  unfolding firstDiffer
-  compare-end i l p = sym (ap said (passed-all n row i l p))
+  -- the rows of goal i + 1 differ
+  abbrev pub apart : ℕ → Bool
+  apart i = not (eqb (x i) 0)
 
-  module _ (goals i : ℕ) (g : goals ≡ below n) where
+  -- ---- the loop marks the goals whose rows differ
+  pub marks-start : 0 ≡ setOf 0 apart
+  unfolding setOf
+  marks-start = refl
+
+  module _ (goals : ℕ) (g : goals ≡ below n) (set k : ℕ) (m : set ≡ setOf k apart) where
     abbrev here : ℕ
-    here = meet goals (union (without (getD a i 0) (getD b i 0)) (without (getD b i 0) (getD a i 0)))
+    here = meet goals (union (without (getD a k 0) (getD b k 0)) (without (getD b k 0) (getD a k 0)))
 
-    here-is : here ≡ odd n (getD a i 0) (getD b i 0)
-    here-is = ap (λ z. meet z (union (without (getD a i 0) (getD b i 0)) (without (getD b i 0) (getD a i 0)))) g
+    here-is : here ≡ x k
+    here-is = ap (λ z. meet z (union (without (getD a k 0) (getD b k 0)) (without (getD b k 0) (getD a k 0)))) g
 
-    pub compare-more : i < n → here ≡ 0 → Passed n row i → Passed n row (i + 1)
-    compare-more l e p = passed-more n row i l (row-same i (sym here-is ∙ e)) p
+    abbrev grown : Bool → ℕ
+    grown c = cond c (union (setOf k apart) (single k)) (setOf k apart)
 
-    module _ (few : n ≤ 32) (e : here ≡ 0 → ⊥) (j : ℕ) (q : j ≡ first 32 here) where
-      pub compare-place : j < 32
-      compare-place =
-          subst (λ z. z < 32) (sym (q ∙ ap (λ z. first 32 z) here-is)) (first-in 32 (odd n (getD a i 0) (getD b i 0)) (odd-lt n (getD a i 0) (getD b i 0) few) (λ z. e (here-is ∙ z)))
+    pub marks-more : ((here ≡ 0 → ⊥) → union set (single k) ≡ setOf (k + 1) apart) × (here ≡ 0 → set ≡ setOf (k + 1) apart)
+    marks-more = (
+      λ e. ap (λ z. union z (single k)) m ∙ ap (λ c. grown (not c)) (sym (ne-eqb (x k) 0 (λ z. e (here-is ∙ z)))) ∙ next,
+      λ e. m ∙ ap (λ c. grown (not c)) (sym (eq-eqb (x k) 0 (sym here-is ∙ e))) ∙ next,
+    )
+      where
+        next : grown (apart k) ≡ setOf (k + 1) apart
+        next = rw (add-one k) (sym (setOf-more k apart))
 
-      pub compare-hit : i < n → Passed n row i → Differs (record { i = i + 1; j = j + 1 }) ≡ said (firstDiffer n (ahead a) (ahead b))
-      unfolding firstDiffer
-      compare-hit l p =
-          let f : j ≡ first 32 (odd n (getD a i 0) (getD b i 0)) = q ∙ ap (λ z. first 32 z) here-is in
-          rw (add-one i, add-one j, f)
-          (sym (ap said (passed-hit n row (suc i, suc (first 32 (odd n (getD a i 0) (getD b i 0)))) i l (row-hit i few (λ z. e (here-is ∙ z))) p)))
+  module _ (few : n ≤ 32) (set k : ℕ) (le : n ≤ k) (ge : k ≤ n) (m : set ≡ setOf k apart) where
+    unmarked : (i : ℕ) → i < n → has set i ≡ false → row (suc i) ≡ none
+    unmarked i l h =
+        row-same i
+        (eqb-true (x i) 0
+        (not-not (eqb (x i) 0) false (ap (λ b. b && apart i) (sym (lt-ltb i k (omega arith))) ∙ sym (has-setOf k apart i) ∙ ap (λ z. has z i) (sym m) ∙ h)))
+
+    pub compare-end : set ≡ 0 → Same ≡ said (firstDiffer n (ahead a) (ahead b))
+    unfolding firstDiffer
+    compare-end z = sym (ap said (nowhere n row (λ i l. unmarked i l (ap (λ w. has w i) z ∙ has-empty i))))
+
+    module _ (some-one : set ≡ 0 → ⊥) (i : ℕ) (e : i ≡ first 32 set) where
+      small : set < 2 ^ 32
+      small = lt-of-lt-of-le (subst (λ z. z < 2 ^ k) (sym m) (setOf-lt k apart)) (pow-mono {j = 32} (omega arith))
+
+      in-set : has (setOf k apart) i ≡ true
+      in-set = ap₂ (λ u v. has u v) (sym m) e ∙ first-member 32 set (first-in 32 set small some-one)
+
+      pub compare-row : (i < n) × (i < 32)
+      compare-row =
+          let l : i < k = ltb-true i k (and-l (ltb i k) (apart i) (sym (has-setOf k apart i) ∙ in-set)) in
+          (omega arith, omega arith)
+
+      uneven : x i ≡ 0 → ⊥
+      uneven z = true≢false (sym in-set ∙ has-setOf k apart i ∙ ap (λ v. ltb i k && not (eqb v 0)) z ∙ and-none (ltb i k))
+        where
+          and-none : (b : Bool) → (b && false) ≡ false
+          and-none true = refl
+          and-none false = refl
+
+      module _ (goals : ℕ) (g : goals ≡ below n) (j : ℕ) (q : j ≡ first 32 (meet goals (union (without (getD a i 0) (getD b i 0)) (without (getD b i 0) (getD a i 0))))) where
+        first-is : j ≡ first 32 (x i)
+        first-is = q ∙ ap (λ z. first 32 (meet z (union (without (getD a i 0) (getD b i 0)) (without (getD b i 0) (getD a i 0))))) g
+
+        pub compare-place : j < 32
+        compare-place = subst (λ z. z < 32) (sym first-is) (first-in 32 (x i) (odd-lt n (getD a i 0) (getD b i 0) few) uneven)
+
+        pub compare-hit : Differs (record { i = i + 1; j = j + 1 }) ≡ said (firstDiffer n (ahead a) (ahead b))
+        unfolding firstDiffer
+        compare-hit =
+            rw (add-one i, add-one j, first-is)
+            (sym
+            (ap said
+            (passed-hit n row (suc i, suc (first 32 (x i))) i (compare-row .0) (row-hit i few uneven)
+            (passed-skip n row i (λ h l o. unmarked h o (first-least 32 set h (omega (arith, e))))))))
 
 -- what is said is the verdict of the paper
 pub said-verdict : (o : Option (ℕ × ℕ)) → verdictOf (said o) ≡ Check.verdict o

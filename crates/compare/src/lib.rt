@@ -1,6 +1,7 @@
 // The comparison of two orders by their rows: "same", or the first i, then j, for which just one of the two has i before j.
 ghost use mathlib.Core.Path.{_≡_};
 ghost use Prim.Native.Nat.{_≤_};
+ghost use Rattle.sets.specs.Sets as S;
 ghost use Rattle.graph.specs.Graph.{ahead};
 ghost use Rattle.grammar.specs.Check.{firstDiffer};
 ghost use Rattle.compare.specs.Verdicts.{said};
@@ -15,20 +16,36 @@ pub enum Verdict {
     Differs(Pair),
 }
 
-// One row of each order a turn: the first goal that is in just one of them.
+// The goals that are in just one of two rows.
+fn odd(goals: u32, p: u32, q: u32) -> u32
+    ensures { λ r. ⌜ r ≡ S.meet goals (S.union (S.without p q) (S.without q p)) ⌝ }
+{
+    goals & ((p ^ (p & q)) | (q ^ (q & p)))
+}
+
+// Which of several is reported: the first.
+fn lowest(set: u32) -> u32
+    ensures { λ r. ⌜ r ≡ S.first 32 set ⌝ }
+{
+    u32::trailing_zeros(set)
+}
+
+// One row of each order a turn: the goals whose rows differ, of these the first, and the first goal that is in just one of its two rows.
 pub fn compare(a: &[u32; 32], b: &[u32; 32], n: usize) -> Verdict
     requires { ⌜ n ≤ 32 ⌝ }
     ensures { λ r. ⌜ r ≡ said (firstDiffer n (ahead (now (a .entry))) (ahead (now (b .entry)))) ⌝ }
 {
     let goals = sets::below32(n);
-    for i in 0..n {
-        let p = a[i];
-        let q = b[i];
-        let other = goals & ((p ^ (p & q)) | (q ^ (q & p)));
-        if other != 0 {
-            let j = sets::first32(other);
-            return Verdict::Differs(Pair { i: i + 1, j: j + 1 });
+    let mut uneven: u32 = 0;
+    for k in 0..n {
+        if odd(goals, a[k], b[k]) != 0 {
+            uneven = uneven | sets::single32(k);
         }
     }
-    Verdict::Same
+    if uneven == 0 {
+        return Verdict::Same;
+    }
+    let i = lowest(uneven) as usize;
+    let j = lowest(odd(goals, a[i], b[i])) as usize;
+    Verdict::Differs(Pair { i: i + 1, j: j + 1 })
 }

@@ -87,18 +87,15 @@ module _ (front later : ℕ) (old : List ℕ) where
           and-true false = refl
 
   -- the same, as the loop's turn has it
-  pub linking-turn : (now : List ℕ) (left i one rest : ℕ) → i ≡ first 32 left → one ≡ single i → rest ≡ without left one → later < 2 ^ 32 → (left ≡ 0 → ⊥)
+  pub linking-turn : (now : List ℕ) (left i rest : ℕ) → i ≡ first 32 left → rest ≡ without left (single (first 32 left)) → later < 2 ^ 32 → (left ≡ 0 → ⊥)
       → Linking front later old now left → Linking front later old (set now i (union (getD now i 0) later)) rest
-  linking-turn now left i one rest ei eo er few n h =
-      let r : rest ≡ without left (single (first 32 left)) = er ∙ ap (λ z. without left z) (eo ∙ ap (λ z. single z) ei) in
-      subst (λ z. Linking front later old (set now i (union (getD now i 0) later)) z) (sym r)
+  linking-turn now left i rest ei er few n h =
+      subst (λ z. Linking front later old (set now i (union (getD now i 0) later)) z) (sym er)
       (subst (λ z. Linking front later old (set now z (union (getD now z 0) later)) (without left (single (first 32 left)))) (sym ei) (linking-more now left few n h))
 
-  pub linking-less : (left i one rest : ℕ) → i ≡ first 32 left → one ≡ single i → rest ≡ without left one → (now : List ℕ) → (left ≡ 0 → ⊥)
+  pub linking-less : (left rest : ℕ) → rest ≡ without left (single (first 32 left)) → (now : List ℕ) → (left ≡ 0 → ⊥)
       → Linking front later old now left → length (members 32 rest) < length (members 32 left)
-  linking-less left i one rest ei eo er now n h =
-      let r : rest ≡ without left (single (first 32 left)) = er ∙ ap (λ z. without left z) (eo ∙ ap (λ z. single z) ei) in
-      subst (λ z. length (members 32 z) < length (members 32 left)) (sym r) (fewer 32 left (h .rest) n)
+  linking-less left rest er now n h = subst (λ z. length (members 32 z) < length (members 32 left)) (sym er) (fewer 32 left (h .rest) n)
 
   pub linking-end : (now : List ℕ) (left : ℕ) → left ≡ 0 → Linking front later old now left → Linked front later old now
   linking-end now left z h = record { words = h .words; order = λ i j l. order i j l }

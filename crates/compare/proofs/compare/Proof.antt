@@ -1,76 +1,126 @@
+use mathlib.Core.Path.{_≡_, sym, ap, _∙_}
+use mathlib.Core.Logic.{⊎-elim}
 use native.Mathlib.Omega.{arith}
-use Prim.Native.Nat.{_-_}
+use Prim.Native.Nat.{_-_, _≤_}
 use borrow.Author.Needs.{needs}
-use Rattle.first_n.proofs.Scan.{Passed, passed-none}
-use Rattle.compare.proofs.Rows.{row, compare-more, compare-place, compare-hit, compare-end}
+use Rattle.sets.specs.Sets.{union, first, setOf}
+use Rattle.compare.proofs.Rows.{apart, marks-start, marks-more, compare-end, compare-row, compare-place, compare-hit}
 use Rattle.compare.proofs.compare.Statement.{statement}
 use Rattle.compare.proofs.compare.Tie as tie
 use Rattle.compare.proofs.compare.Reads as reads
 use Rattle.compare.proofs.compare.Lts as lts
+use Rattle.compare.proofs.lowest.Reads as lowest-reads
+use Rattle.compare.proofs.odd.Reads as odd-reads
 use Rattle.sets.proofs.below32.Reads as below32-reads
-use Rattle.sets.proofs.first32.Reads as first32-reads
+use Rattle.sets.proofs.single32.Reads as single32-reads
 
 abbrev Inv-loop : tie.InvT-loop
-Inv-loop a b n goals i₀ i = Passed n (row n a b) i
+Inv-loop a b n goals uneven₀ k₀ uneven k = (k ≤ n) × (uneven ≡ setOf k (apart n a b))
 
 abbrev μ-loop : tie.MeasureT-loop
-μ-loop a b n goals i₀ i = n - i
+μ-loop a b n goals uneven₀ k₀ uneven k = n - k
 
--- src/lib.rt:23:9
+-- src/lib.rt:38:9
 below32-requires : tie.Need-below32-requires Inv-loop μ-loop
 below32-requires c κs = search needs
 
--- src/lib.rt:24:5
+-- src/lib.rt:40:5
 loop-holds : tie.Need-loop-holds Inv-loop μ-loop
-loop-holds c = passed-none _ _
+loop-holds c = (omega arith, marks-start (c .before .args .n) (c .before .args .a .now) (c .before .args .b .now))
 
--- src/lib.rt:25:17
-mul-p : tie.Need-mul-p Inv-loop μ-loop
-mul-p c = search needs
+-- src/lib.rt:41:23
+mul-odd : tie.Need-mul-odd Inv-loop μ-loop
+mul-odd c = search needs
 
--- src/lib.rt:25:17
-element-copy-out-p : tie.Need-element-copy-out-p Inv-loop μ-loop
-element-copy-out-p c = search needs
+-- src/lib.rt:41:23
+element-copy-out-odd : tie.Need-element-copy-out-odd Inv-loop μ-loop
+element-copy-out-odd c = search needs
 
--- src/lib.rt:26:17
-mul-q : tie.Need-mul-q Inv-loop μ-loop
-mul-q c = search needs
+-- src/lib.rt:41:29
+mul-odd-2 : tie.Need-mul-odd-2 Inv-loop μ-loop
+mul-odd-2 c = search needs
 
--- src/lib.rt:26:17
-element-copy-out-q : tie.Need-element-copy-out-q Inv-loop μ-loop
-element-copy-out-q c = search needs
+-- src/lib.rt:41:29
+element-copy-out-odd-2 : tie.Need-element-copy-out-odd-2 Inv-loop μ-loop
+element-copy-out-odd-2 c = search needs
 
--- src/lib.rt:29:17
-first32-requires : tie.Need-first32-requires Inv-loop μ-loop
-first32-requires c κs = search needs
+-- src/lib.rt:41:12
+odd-requires : tie.Need-odd-requires Inv-loop μ-loop
+odd-requires c κs = search needs
 
--- src/lib.rt:30:47
-add-t21 : tie.Need-add-t21 Inv-loop μ-loop
-add-t21 c = search needs
+-- src/lib.rt:42:31
+single32-requires : tie.Need-single32-requires Inv-loop μ-loop
+single32-requires c κs = search needs
 
--- src/lib.rt:30:57
-add-t22 : tie.Need-add-t22 Inv-loop μ-loop
-add-t22 c = let l = compare-place (c .before .before .before .before .before .before .before .args .n) (c .before .before .before .before .before .before .before .args .a .now) (c .before .before .before .before .before .before .before .args .b .now) _ (c .before .before .before .before .before .loop .i) (c .before .before .before .before .before .before .below32 .ensures) (c .before .before .before .before .before .before .before .pre) (c .before .if1 .taken) _ (c .first32 .ensures) in omega arith
+-- src/lib.rt:40:9
+add-k : tie.Need-add-k Inv-loop μ-loop
+add-k c = search needs
 
--- src/lib.rt:30:13
-returns : tie.Need-returns Inv-loop μ-loop
-returns c = compare-hit (c .before .before .before .before .before .before .before .args .n) (c .before .before .before .before .before .before .before .args .a .now) (c .before .before .before .before .before .before .before .args .b .now) _ (c .before .before .before .before .before .loop .i) (c .before .before .before .before .before .before .below32 .ensures) (c .before .before .before .before .before .before .before .pre) (c .before .if1 .taken) _ (c .first32 .ensures) (c .before .before .before .before .loop-test .taken) (c .before .before .before .before .before .loop .inv)
-
--- src/lib.rt:24:9
-add-i : tie.Need-add-i Inv-loop μ-loop
-add-i c = search needs
-
--- src/lib.rt:24:5
+-- src/lib.rt:40:5
 loop-less : tie.Need-loop-less Inv-loop μ-loop
 loop-less c = search needs
 
--- src/lib.rt:24:5
+-- src/lib.rt:40:5
 loop-again : tie.Need-loop-again Inv-loop μ-loop
-loop-again c = compare-more (c .before .before .before .before .before .before .args .n) (c .before .before .before .before .before .before .args .a .now) (c .before .before .before .before .before .before .args .b .now) _ (c .before .before .before .before .loop .i) (c .before .before .before .before .before .below32 .ensures) (c .before .before .before .loop-test .taken) (c .if1 .left) (c .before .before .before .before .loop .inv)
+loop-again c =
+    let l = c .before .before .before .before .before .loop in
+    let more = marks-more (c .before .before .before .before .before .before .before .args .n) (c .before .before .before .before .before .before .before .args .a .now) (c .before .before .before .before .before .before .before .args .b .now) _ (c .before .before .before .before .before .before .below32 .ensures) (l .uneven) (l .k) (l .inv .1) in (
+      search needs,
+      ⊎-elim (λ w. w .2 ∙ ap (λ z. union (l .uneven) z) (w .1 .ensures) ∙ more .0 (λ z. w .0 .taken (c .before .odd .ensures ∙ z)))
+          (λ w. w .1 ∙ more .1 (sym (c .before .odd .ensures) ∙ w .0 .left)) (c .if1 .came),
+    )
 
--- src/lib.rt:19:1
+-- src/lib.rt:46:9
+returns : tie.Need-returns Inv-loop μ-loop
+returns c = compare-end (c .before .before .before .before .args .n) (c .before .before .before .before .args .a .now) (c .before .before .before .before .args .b .now) (c .before .before .before .before .pre) _ (c .before .before .loop .k) (c .before .loop-test .left) (c .before .before .loop .inv .0) (c .before .before .loop .inv .1) (c .if2 .taken)
+
+-- src/lib.rt:48:13
+lowest-requires : tie.Need-lowest-requires Inv-loop μ-loop
+lowest-requires c κs = search needs
+
+-- src/lib.rt:48:13
+cast-i : tie.Need-cast-i Inv-loop μ-loop
+cast-i c = search needs
+
+-- src/lib.rt:49:31
+mul-odd-3 : tie.Need-mul-odd-3 Inv-loop μ-loop
+mul-odd-3 c = search needs
+
+-- src/lib.rt:49:31
+element-copy-out-odd-3 : tie.Need-element-copy-out-odd-3 Inv-loop μ-loop
+element-copy-out-odd-3 c = (compare-row (c .before .before .before .before .before .args .n) (c .before .before .before .before .before .args .a .now) (c .before .before .before .before .before .args .b .now) (c .before .before .before .before .before .pre) _ (c .before .before .before .loop .k) (c .before .before .loop-test .left) (c .before .before .before .loop .inv .0) (c .before .before .before .loop .inv .1) (c .before .if2 .left) _ (c .lowest .ensures)) .1
+
+-- src/lib.rt:49:37
+mul-odd-4 : tie.Need-mul-odd-4 Inv-loop μ-loop
+mul-odd-4 c = search needs
+
+-- src/lib.rt:49:37
+element-copy-out-odd-4 : tie.Need-element-copy-out-odd-4 Inv-loop μ-loop
+element-copy-out-odd-4 c = (compare-row (c .before .before .before .before .before .before .args .n) (c .before .before .before .before .before .before .args .a .now) (c .before .before .before .before .before .before .args .b .now) (c .before .before .before .before .before .before .pre) _ (c .before .before .before .before .loop .k) (c .before .before .before .loop-test .left) (c .before .before .before .before .loop .inv .0) (c .before .before .before .before .loop .inv .1) (c .before .before .if2 .left) _ (c .before .lowest .ensures)) .1
+
+-- src/lib.rt:49:20
+odd-requires-2 : tie.Need-odd-requires-2 Inv-loop μ-loop
+odd-requires-2 c κs = search needs
+
+-- src/lib.rt:49:13
+lowest-requires-2 : tie.Need-lowest-requires-2 Inv-loop μ-loop
+lowest-requires-2 c κs = search needs
+
+-- src/lib.rt:49:13
+cast-j : tie.Need-cast-j Inv-loop μ-loop
+cast-j c = search needs
+
+-- src/lib.rt:50:32
+add-t23 : tie.Need-add-t23 Inv-loop μ-loop
+add-t23 c = let l = compare-row (c .before .before .before .before .before .before .before .before .before .args .n) (c .before .before .before .before .before .before .before .before .before .args .a .now) (c .before .before .before .before .before .before .before .before .before .args .b .now) (c .before .before .before .before .before .before .before .before .before .pre) _ (c .before .before .before .before .before .before .before .loop .k) (c .before .before .before .before .before .before .loop-test .left) (c .before .before .before .before .before .before .before .loop .inv .0) (c .before .before .before .before .before .before .before .loop .inv .1) (c .before .before .before .before .before .if2 .left) _ (c .before .before .before .before .lowest .ensures) in omega (arith, l .1)
+
+-- src/lib.rt:50:42
+add-t27 : tie.Need-add-t27 Inv-loop μ-loop
+add-t27 c = let l = compare-place (c .before .before .before .before .before .before .before .before .before .args .n) (c .before .before .before .before .before .before .before .before .before .args .a .now) (c .before .before .before .before .before .before .before .before .before .args .b .now) (c .before .before .before .before .before .before .before .before .before .pre) _ (c .before .before .before .before .before .before .before .loop .k) (c .before .before .before .before .before .before .loop-test .left) (c .before .before .before .before .before .before .before .loop .inv .0) (c .before .before .before .before .before .before .before .loop .inv .1) (c .before .before .before .before .before .if2 .left) _ (c .before .before .before .before .lowest .ensures) _ (c .before .before .before .before .before .before .before .before .below32 .ensures) _ (c .lowest2 .ensures ∙ ap (λ z. first 32 z) (c .before .odd2 .ensures)) in omega arith
+
+-- src/lib.rt:34:1
 returns-2 : tie.Need-returns-2 Inv-loop μ-loop
-returns-2 c = compare-end (c .before .before .before .args .n) (c .before .before .before .args .a .now) (c .before .before .before .args .b .now) _ (c .loop-test .left) (c .before .loop .inv)
+returns-2 c = compare-hit (c .before .before .before .before .before .before .before .before .before .args .n) (c .before .before .before .before .before .before .before .before .before .args .a .now) (c .before .before .before .before .before .before .before .before .before .args .b .now) (c .before .before .before .before .before .before .before .before .before .pre) _ (c .before .before .before .before .before .before .before .loop .k) (c .before .before .before .before .before .before .loop-test .left) (c .before .before .before .before .before .before .before .loop .inv .0) (c .before .before .before .before .before .before .before .loop .inv .1) (c .before .before .before .before .before .if2 .left) _ (c .before .before .before .before .lowest .ensures) _ (c .before .before .before .before .before .before .before .before .below32 .ensures) _ (c .lowest2 .ensures ∙ ap (λ z. first 32 z) (c .before .odd2 .ensures))
 
 pub compare-spec : {M : Type 1} → statement M
 compare-spec =
@@ -80,15 +130,25 @@ compare-spec =
     μ-loop
     below32-requires
     loop-holds
-    mul-p
-    element-copy-out-p
-    mul-q
-    element-copy-out-q
-    first32-requires
-    add-t21
-    add-t22
-    returns
-    add-i
+    mul-odd
+    element-copy-out-odd
+    mul-odd-2
+    element-copy-out-odd-2
+    odd-requires
+    single32-requires
+    add-k
     loop-less
     loop-again
+    returns
+    lowest-requires
+    cast-i
+    mul-odd-3
+    element-copy-out-odd-3
+    mul-odd-4
+    element-copy-out-odd-4
+    odd-requires-2
+    lowest-requires-2
+    cast-j
+    add-t23
+    add-t27
     returns-2)

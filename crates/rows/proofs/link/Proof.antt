@@ -9,9 +9,8 @@ use Rattle.rows.proofs.link.Statement.{statement}
 use Rattle.rows.proofs.link.Tie as tie
 use Rattle.rows.proofs.link.Reads as reads
 use Rattle.rows.proofs.link.Lts as lts
+use Rattle.rows.proofs.rest.Reads as rest-reads
 use Rattle.sets.proofs.first32.Reads as first32-reads
-use Rattle.sets.proofs.single32.Reads as single32-reads
-use Rattle.sets.proofs.without32.Reads as without32-reads
 
 abbrev Inv-loop : tie.InvT-loop
 Inv-loop rows₀ front later left₀ rows left = Linking front later rows₀ rows left
@@ -49,27 +48,23 @@ mul-rows-2 c = let l = row (c .before) in search needs
 element-write-rows : tie.Need-element-write-rows Inv-loop μ-loop
 element-write-rows c = row (c .before)
 
--- src/lib.rt:12:38
-single32-requires : tie.Need-single32-requires Inv-loop μ-loop
-single32-requires c κs = row (c .before)
+-- src/lib.rt
+rest-requires : tie.Need-rest-requires Inv-loop μ-loop
+rest-requires c κs = c .before .before .loop-test .taken
 
--- src/lib.rt:12:9
-without32-requires : tie.Need-without32-requires Inv-loop μ-loop
-without32-requires c κs = search needs
-
--- src/lib.rt:9:5
+-- src/lib.rt
 loop-less : tie.Need-loop-less Inv-loop μ-loop
 loop-less c =
-    let l = c .before .before .before .before .before .loop in
-    linking-less _ _ _ (l .left) _ _ _ (c .before .before .before .first32 .ensures) (c .before .single32 .ensures) (c .without32 .ensures) _ (c .before .before .before .before .loop-test .taken) (l .inv)
+    let l = c .before .before .before .before .loop in
+    linking-less _ _ _ (l .left) _ (c .rest .ensures) _ (c .before .before .before .loop-test .taken) (l .inv)
 
--- src/lib.rt:9:5
+-- src/lib.rt
 loop-again : tie.Need-loop-again Inv-loop μ-loop
 loop-again c =
-    let l = c .before .before .before .before .before .loop in
-    linking-turn _ _ _ (l .rows) (l .left) _ _ _ (c .before .before .before .first32 .ensures) (c .before .single32 .ensures) (c .without32 .ensures) (search needs) (c .before .before .before .before .loop-test .taken) (l .inv)
+    let l = c .before .before .before .before .loop in
+    linking-turn _ _ _ (l .rows) (l .left) _ _ (c .before .before .first32 .ensures) (c .rest .ensures) (search needs) (c .before .before .before .loop-test .taken) (l .inv)
 
--- src/lib.rt:5:1
+-- src/lib.rt
 returns : tie.Need-returns Inv-loop μ-loop
 returns c = linking-end _ _ _ _ _ (search needs) (c .before .loop .inv)
 
@@ -85,8 +80,7 @@ link-spec =
     element-copy-out-rows
     mul-rows-2
     element-write-rows
-    single32-requires
-    without32-requires
+    rest-requires
     loop-less
     loop-again
     returns)
