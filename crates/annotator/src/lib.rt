@@ -20,6 +20,8 @@
 // check(bytes, text)       1 "same", or 2 "differs" with the first i, then j, for which      .., 15,   Answers.check, over Check.checked in `grammar`
 //                          just one of the two orders has i before j                         16, 17
 //
+// `inside` is no operation: the test behind refusal 14, for callers that have a goal count.
+//
 // refusal                                                                          place
 // -------------------------------------------------------------------------------  ------------------------------------------------------------------
 //  1  the record is below 24 bytes                                                 its length
@@ -153,8 +155,8 @@ pub fn mel(bytes: &[u8], out: &mut [u8]) -> mel::Written
     mel::write(bytes, out)
 }
 
-// Whether g is from 1 to n.
-fn inside(g: usize, n: usize) -> bool
+// Whether g is the number of one of n goals: from 1 to n.
+pub fn inside(g: usize, n: usize) -> bool
     ensures { λ r. ⌜ r ≡ (leb 1 g && leb g n) ⌝ }
 {
     (1 <= g) & (g <= n)
