@@ -8,7 +8,7 @@ cd "$(dirname "$0")/.."
 . scripts/static-library.sh
 if [ -z "${SHEET:-}" ]; then
     SHEET=target/bin/sheet
-    rt check sheet
+    prover check sheet
 fi
 CC=${CC:-cc}
 CXX=${CXX:-c++}

@@ -9,13 +9,24 @@ if [ $# -eq 0 ]; then
     echo "usage: kit/run.sh COMMAND [WORD..]" >&2
     exit 2
 fi
+if ! command -v "$1" >/dev/null; then
+    echo "kit/run.sh: $1 is not a program that can be run" >&2
+    exit 2
+fi
 here=$(dirname "$0")
 work=$(mktemp -d)
 trap 'rm -rf "$work"' EXIT
 
 for file in ${FILES:-"$here"/cases/*.txt "$here"/vectors/*.txt}; do
     sed -e '/^#/d' -e '/^$/d' -e 's/ = .*//' "$file" >"$work/questions"
-    "$@" <"$work/questions" >"$work/answers" || echo "$1 ended with status $? on $file" >&2
+    status=0
+    "$@" <"$work/questions" >"$work/answers" || status=$?
+    if [ "$status" -ne 0 ]; then
+        echo "$1 ended with status $status on $file" >&2
+    fi
+    if [ "$status" -eq 126 ] || [ "$status" -eq 127 ]; then
+        exit 2
+    fi
     awk -v answers="$work/answers" -v file="$file" '
         function short(text) { return length(text) > 150 ? substr(text, 1, 150) ".." : text }
         function range(given, expected,    g, e) {

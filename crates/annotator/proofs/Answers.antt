@@ -23,7 +23,7 @@ use Rattle.annotator.specs.declared.ReadAnswer.the-variants.{Accepted, R
 use Rattle.annotator.specs.declared.Span.{Span}
 use Rattle.annotator.specs.declared.TextAnswer.{TextAnswer}
 use Rattle.annotator.specs.declared.TextAnswer.the-variants.{At, NoText}
-use Rattle.annotator.specs.Answers.{afterReading, ReadValues, noRecord, readValues, read, orderGraph, TextValues, noText, textValues, textOf, goalText}
+use Rattle.annotator.specs.Answers.{afterReading, readValues, read, orderGraph, TextValues, noText, textValues, textOf, goalText}
 
 module _ (b : List ℕ) where
   pub read-fine : {s : Reading} {n : ℕ} → s ≡ reading b → s ≡ Fine → n ≡ goalCount b → readValues (Accepted n) ≡ read b

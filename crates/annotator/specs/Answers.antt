@@ -2,7 +2,7 @@
 -- turns each case of the program's answer into these values; and the values that the lent bytes give.
 -- 01: "A refusal returns its number and a place, every other field zero (13 also has its four goals), and changes no lent byte."
 -- Writing the form and the length estimate have theirs in the crate `form`, writing MEL in `mel`.
-use mathlib.Core.Bool.{Bool, _&&_, cond}
+use mathlib.Core.Bool.{_&&_, cond}
 use mathlib.Core.List.{List}
 use Prim.Native.Nat.{ℕ}
 use lib.Dec.{leb}

@@ -1,5 +1,56 @@
-// The operations of the paper, each from lent bytes to its answer. None has a precondition; each promise fixes the entire answer, refused or not, and every
-// lent byte afterwards (what is lent by `&` cannot change). The definitions stand in specs/Answers.antt, for the form and MEL in the crates `form` and `mel`.
+// The operations of the paper, each from lent bytes to its whole answer. None has a precondition.
+//
+// `bytes` is the record. It and `text` are lent by `&` and stay as they were; `out` is lent by `&mut`. Reading the record starts every operation, so
+// refusals 1 to 11 come before those of its own, which come in the sequence given. A refusal has its number and place, every other value zero (13 also
+// has its four goals), and changes no lent byte. Definitions without a crate stand in specs/ here.
+//
+// operation                accepted, it answers                                              refuses   promised by
+// -----------------------  ----------------------------------------------------------------  --------  ------------------------------------------
+// read(bytes)              the goal count n                                                  1 to 11   Answers.read
+// order(bytes)             n, and the closed graph: row g - 1 has the goals that g is        1 to 11   Answers.read, Answers.orderGraph
+//                          before, rows past n are empty; refused, the empty graph of 0 goals
+// form(bytes, out)         the length of the house form's text, which fills the first        .., 13,   Form.plan, Form.answer, Form.filled in `form`
+//                          bytes of `out`; the rest of `out` is kept                         12
+// form_length(bytes)       a number from the form's length up to 160; which is left free     .., 13    Form.plan, Form.Estimated in `form`
+// mel(bytes, out)          the length of the MEL annotation, which fills the first bytes     .., 12    Annotation.melAnswer, Annotation.melBuffer in
+//                          of `out`; the rest of `out` is kept                                         `mel`
+// find_text(bytes, goal)   the place and the length of the goal's text in the record         .., 14    Answers.goalText
+// goal_text(bytes, goal)   the part of the lent record that holds this text; with any        -         Answers.goalText, Part.PartAt
+//                          refusal, which find_text gives, the empty part at its start
+// check(bytes, text)       1 "same", or 2 "differs" with the first i, then j, for which      .., 15,   Answers.check, over Check.checked in `grammar`
+//                          just one of the two orders has i before j                         16, 17
+//
+// `inside` is no operation: the test behind refusal 14, for callers that have a goal count.
+//
+// refusal                                                                          place
+// -------------------------------------------------------------------------------  ------------------------------------------------------------------
+//  1  the record is below 24 bytes                                                 its length
+//  2  mark: bytes 0 to 2 are not `LFJ`                                             0
+//  3  version: not 1                                                               3
+//  4  goal count n: not 1 to 32                                                    5
+//  5  variable count v: above 64                                                   6
+//  6  a head bit at or above v; else a ground bit outside the head                 8; 16
+//     Then for each goal in turn:
+//  7  its nine fixed bytes are incomplete                                          the record's length
+//  8  a bit of its set at or above v                                               the start of its set
+//  9  its text's length is not 1 to 40                                             the length byte
+//  7  its text is incomplete                                                       the record's length
+//  9  a text byte is not 33 to 126                                                 the first such byte
+//     Then for each pair in turn:
+//  7  it is incomplete                                                             the record's length
+// 10  not lower then higher, not below v or not ascending                          its first byte
+//     Last:
+// 11  bytes are left over                                                          the first of them
+//
+// 12  `out` is shorter than the text                                               the length needed
+// 13  no expression induces the order: goals a, b, c, d with a before c,           0
+//     b before c, b before d and no other order among the four, the first
+//     such by a, then b, c, d
+// 14  the goal number is outside 1 to n                                            0
+// 15  the text is empty or above 512 bytes                                         0
+// 16  the text is not in the grammar, the limit of 32 open parentheses included    the first byte with which no text of the grammar, of any length,
+//                                                                                  goes on, or the text's length if it stops early
+// 17  a number above n or met before, the leftmost; else a goal is missing         its first byte; the text's length
 use compare::Verdict;
 use graph::Graph;
 use reading::Reading;
@@ -81,11 +132,41 @@ pub fn order(bytes: &[u8]) -> OrderAnswer
     }
 }
 
-// Whether g is from 1 to n.
-fn inside(g: usize, n: usize) -> bool
+// Writes the house form of a record's order into `out`: its length, or a refusal, 13 with its four goals, that leaves `out` as it was.
+pub fn form(bytes: &[u8], out: &mut [u8]) -> form::Written
+    ensures { λ r. ⌜ P.values r ≡ P.answer (P.plan (now (bytes .entry))) (now (out .entry)) ⌝ }
+    ensures { λ _. ⌜ now (out .exit) ≡ P.filled (P.plan (now (bytes .entry))) (now (out .entry)) ⌝ }
+{
+    form::write(bytes, out)
+}
+
+// Estimates the length of a record's form: a number from it up to 160, or a refusal, 13 with its four goals.
+pub fn form_length(bytes: &[u8]) -> form::Estimate
+    ensures { λ r. ⌜ P.Estimated (P.plan (now (bytes .entry))) (P.estimate r) ⌝ }
+{
+    form::length(bytes)
+}
+
+// Writes the MEL annotation of a record into `out`: its length, or a refusal that leaves `out` as it was.
+pub fn mel(bytes: &[u8], out: &mut [u8]) -> mel::Written
+    ensures { λ r. ⌜ M.values r ≡ M.melAnswer (now (bytes .entry)) (now (out .entry)) ⌝ }
+    ensures { λ _. ⌜ now (out .exit) ≡ M.melBuffer (now (bytes .entry)) (now (out .entry)) ⌝ }
+{
+    mel::write(bytes, out)
+}
+
+// Whether g is the number of one of n goals: from 1 to n.
+pub fn inside(g: usize, n: usize) -> bool
     ensures { λ r. ⌜ r ≡ (leb 1 g && leb g n) ⌝ }
 {
     (1 <= g) & (g <= n)
+}
+
+// The goal that a caller's number names.
+fn number_of(goal: u32) -> usize
+    ensures { λ r. ⌜ r ≡ goal ⌝ }
+{
+    goal as usize
 }
 
 // Where the text of a goal stands, or why there is none.
@@ -95,7 +176,7 @@ pub fn find_text(bytes: &[u8], goal: u32) -> TextAnswer
     match record::read(bytes) {
         Reading::Refused(r) => TextAnswer::NoText(r),
         Reading::Fine => {
-            let g = goal as usize;
+            let g = number_of(goal);
             if inside(g, goal_count(bytes)) {
                 let place = fields::text_place(bytes, g);
                 let length = fields::text_length(bytes, g);
@@ -151,27 +232,4 @@ pub fn check(bytes: &[u8], text: &[u8]) -> CheckAnswer
         Reading::Refused(r) => CheckAnswer::Rejected(r),
         Reading::Fine => check_text(bytes, text),
     }
-}
-
-// Writes the MEL annotation of a record into `out`: its length, or a refusal that leaves `out` as it was.
-pub fn mel(bytes: &[u8], out: &mut [u8]) -> mel::Written
-    ensures { λ r. ⌜ M.values r ≡ M.melAnswer (now (bytes .entry)) (now (out .entry)) ⌝ }
-    ensures { λ _. ⌜ now (out .exit) ≡ M.melBuffer (now (bytes .entry)) (now (out .entry)) ⌝ }
-{
-    mel::write(bytes, out)
-}
-
-// Writes the house form of a record's order into `out`: its length, or a refusal, 13 with its four goals, that leaves `out` as it was.
-pub fn form(bytes: &[u8], out: &mut [u8]) -> form::Written
-    ensures { λ r. ⌜ P.values r ≡ P.answer (P.plan (now (bytes .entry))) (now (out .entry)) ⌝ }
-    ensures { λ _. ⌜ now (out .exit) ≡ P.filled (P.plan (now (bytes .entry))) (now (out .entry)) ⌝ }
-{
-    form::write(bytes, out)
-}
-
-// Estimates the length of a record's form: a number from it up to 160, or a refusal, 13 with its four goals.
-pub fn form_length(bytes: &[u8]) -> form::Estimate
-    ensures { λ r. ⌜ P.Estimated (P.plan (now (bytes .entry))) (P.estimate r) ⌝ }
-{
-    form::length(bytes)
 }

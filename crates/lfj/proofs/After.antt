@@ -1,8 +1,8 @@
 -- The goals that a goal is before, case by case.
 use mathlib.Core.Path.{_≡_, refl, sym, ap, ap₂, _∙_}
-use mathlib.Core.Bool.{Bool, true, false, _&&_, cond}
+use mathlib.Core.Bool.{true, false, _&&_, cond}
 use mathlib.Core.List.{List}
-use Prim.Native.Nat.{ℕ, suc, _+_, _-_, _≤_, _<_}
+use Prim.Native.Nat.{ℕ, suc, _-_}
 use native.Mathlib.Omega.{arith}
 use lib.Dec.{leb}
 use lib.ListN.{getD}
@@ -43,15 +43,6 @@ module _ (b : List ℕ) where
       go (Unread r) q =
           let h : 0 ≡ r .number = ap (λ (v : ReadValues). v .number) (values ∙ said (Unread r) q) in
           absurd (omega (arith, h, refusal-number b r q .0))
-
-  -- a goal from 1 to n
-  pub ranged : {t v : Bool} {n : ℕ} (g : ℕ) → t ≡ (leb 1 g && leb g n) → t ≡ v → n ≡ goalCount b → leb 1 g && leb g (goalCount b) ≡ v
-  ranged g e f h = ap (λ (n : ℕ). leb 1 g && leb g n) (sym h) ∙ sym e ∙ f
-
-  pub in-range : (g : ℕ) → reading b ≡ Fine → leb 1 g && leb g (goalCount b) ≡ true → (1 ≤ g) × (g ≤ 32)
-  in-range g f e =
-      let h = leb-true g (goalCount b) (and-r (leb 1 g) (leb g (goalCount b)) e) in
-      (leb-true 1 g (and-l (leb 1 g) (leb g (goalCount b)) e), omega (arith, h, fine-well-formed b f .goals-to))
 
   -- the word of a refused record
   pub after-refused : {s : ReadAnswer} {w : ℕ} (r : Refusal) (g : ℕ) → readValues s ≡ read b → s ≡ Refused r → w ≡ refusalWord (r .number) (r .place)

@@ -1,7 +1,7 @@
 -- The words lose nothing: bits 56 to 63 of every word are its refusal's number, so those of an accepted answer are 0, and every value stands in its bits.
 use mathlib.Core.Path.{_≡_}
 use mathlib.Core.Logic.{_⊎_, inl, inr}
-use Prim.Native.Nat.{ℕ, _+_, _*_, _/_, _%_, _^_, _≤_, _<_}
+use Prim.Native.Nat.{ℕ, _/_, _%_, _^_, _<_}
 use native.Mathlib.Omega.{arith}
 use Rattle.grammar.specs.Check.{differs}
 use Rattle.expression.specs.Search.{Four}

@@ -2,9 +2,9 @@
 use mathlib.Core.Path.{_≡_, refl, sym, ap, _∙_}
 use mathlib.Core.Bool.{Bool, true, false, _&&_, cond, true≢false}
 use mathlib.Core.List.{List}
-use mathlib.Core.Logic.{_⊎_, inl, inr}
+use mathlib.Core.Logic.{inl, inr}
 use mathlib.Core.Option.{Option, none, some}
-use Prim.Native.Nat.{ℕ, zero, suc, _+_, _-_, _*_, _/_, _^_, _≤_, _<_}
+use Prim.Native.Nat.{ℕ, _-_, _/_, _^_, _≤_, _<_}
 use native.Mathlib.Nat.{lt-of-lt-of-le}
 use native.Mathlib.Omega.{arith}
 use lib.Dec.{leb}
@@ -13,7 +13,6 @@ use lib.Pow.{pow-mono}
 use borrow.Author.Tests.{leb-true}
 use Rattle.logic.proofs.Bools.{and-l, and-r}
 use Rattle.text.specs.Lent.{fits}
-use Rattle.graph.specs.Graph.{goalsOf}
 use Rattle.graph.proofs.Rows.{goals-lt}
 use Rattle.fields.specs.Fields.{goalCount, textPlace}
 use Rattle.reading.specs.declared.Reading.{Reading}

@@ -9,9 +9,7 @@ use form::Estimate;
 use graph::Graph;
 use refusal::Refusal;
 ghost use mathlib.Core.Path.{_≡_};
-ghost use mathlib.Core.Bool.{_&&_};
 ghost use Prim.Native.Nat.{_%_, _^_};
-ghost use lib.Dec.{leb};
 ghost use Rattle.compare.specs.Verdicts.{verdictOf};
 ghost use Rattle.first_n.specs.Found.{four};
 ghost use Rattle.form.specs.Form as F;
@@ -45,13 +43,6 @@ pub extern "C" fn lfj_read(bytes: &[u8]) -> u64
     }
 }
 
-// Whether g is from 1 to n.
-fn inside(g: usize, n: usize) -> bool
-    ensures { λ r. ⌜ r ≡ (leb 1 g && leb g n) ⌝ }
-{
-    (1 <= g) & (g <= n)
-}
-
 // The goals that a goal is before: their set.
 #[no_mangle]
 pub extern "C" fn lfj_after(bytes: &[u8], goal: u32) -> u64
@@ -63,7 +54,7 @@ pub extern "C" fn lfj_after(bytes: &[u8], goal: u32) -> u64
         ReadAnswer::Refused(r) => refused(r),
         ReadAnswer::Accepted(n) => {
             let g = goal as usize;
-            if inside(g, n) {
+            if annotator::inside(g, n) {
                 let graph = answer.graph;
                 return graph.row(g) as u64;
             }

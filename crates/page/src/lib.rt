@@ -1,8 +1,8 @@
 // Writing the printed sheet of a record. Each function writes into a lent array from a place on and answers the next place (crate text).
 use first_n::Four;
+use libc::STDOUT_FILENO;
 use reading::Reading;
 ghost use mathlib.Core.Path.{_≡_};
-ghost use mathlib.Core.List.{_++_};
 ghost use Prim.Native.Nat.{_+_, _^_, _<_, _≤_};
 ghost use lib.ListN.{length};
 ghost use Rattle.text.specs.Text.{Wrote};
@@ -169,4 +169,20 @@ pub fn write(bytes: &[u8], lines: &mut [u8], text: &mut [u8]) -> Parts
             put_mel(lines, top, bytes, text)
         }
     }
+}
+
+// Prints the sheet of a record on standard output: the three parts that `write` names. `text` is the room for the MEL text.
+pub fn print(bytes: &[u8], text: &mut [u8])
+    requires { ⌜ length (now text) ≡ 32768 ⌝ }
+    ensures { λ _. ⌜ now (text .exit) ≡ M.melBuffer (now (bytes .entry)) (now (text .entry)) ⌝ }
+{
+    let mut space = [0u8; 2048];
+    let parts = write(bytes, &mut space, text);
+    let top = parts.top;
+    let mel = parts.mel;
+    let end = parts.end;
+    let lines: &[u8] = &space;
+    io::write_all(STDOUT_FILENO, &lines[..top]);
+    io::write_all(STDOUT_FILENO, &text[..mel]);
+    io::write_all(STDOUT_FILENO, &lines[top..end]);
 }

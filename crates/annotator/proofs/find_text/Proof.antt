@@ -1,3 +1,5 @@
+use mathlib.Core.Path.{ap, _∙_}
+use Rattle.annotator.specs.Answers.{goalText}
 use Rattle.annotator.proofs.Answers.{accepted, tested, in-range, text-at, text-refused, text-outside}
 use borrow.Author.Needs.{needs}
 use Rattle.annotator.proofs.find_text.Statement.{statement}
@@ -6,6 +8,7 @@ use Rattle.annotator.proofs.find_text.Reads as reads
 use Rattle.annotator.proofs.find_text.Lts as lts
 use Rattle.annotator.proofs.goal_count.Reads as goal-count-reads
 use Rattle.annotator.proofs.inside.Reads as inside-reads
+use Rattle.annotator.proofs.number_of.Reads as number-of-reads
 use Rattle.fields.proofs.text_length.Reads as text-length-reads
 use Rattle.fields.proofs.text_place.Reads as text-place-reads
 use Rattle.record.proofs.read.Reads as read-reads
@@ -22,45 +25,43 @@ enum-known-r c = search needs
 enum-told : tie.Need-enum-told
 enum-told c = search needs
 
--- src/lib.rt:86:26
+number-of-requires : tie.Need-number-of-requires
+number-of-requires c κs = search needs
+
 goal-count-requires : tie.Need-goal-count-requires
 goal-count-requires c κs = search needs
 
--- src/lib.rt:86:16
 inside-requires : tie.Need-inside-requires
 inside-requires c κs = search needs
 
--- src/lib.rt:87:21
 text-place-requires : tie.Need-text-place-requires
 text-place-requires c κs =
-    let b = c .before .before .before .before .before .before .before .args .bytes .now in
-    let g = c .before .before .before .before .before .before .before .args .goal in
-    in-range b g (accepted b (c .before .before .before .before .before .read .ensures) (c .before .before .before .enum-told .given .1)) (tested b g (c .before .inside .ensures) (c .if1 .taken) (c .before .before .goal-count .ensures))
+    let b = c .before .before .before .before .before .before .before .before .args .bytes .now in
+    let g = c .before .before .before .number-of .result in
+    in-range b g (accepted b (c .before .before .before .before .before .before .read .ensures) (c .before .before .before .before .enum-told .given .1)) (tested b g (c .before .inside .ensures) (c .if1 .taken) (c .before .before .goal-count .ensures))
 
--- src/lib.rt:88:21
 text-length-requires : tie.Need-text-length-requires
 text-length-requires c κs =
-    let b = c .before .before .before .before .before .before .before .before .args .bytes .now in
-    let g = c .before .before .before .before .before .before .before .before .args .goal in
-    in-range b g (accepted b (c .before .before .before .before .before .before .read .ensures) (c .before .before .before .before .enum-told .given .1)) (tested b g (c .before .before .inside .ensures) (c .before .if1 .taken) (c .before .before .before .goal-count .ensures))
+    let b = c .before .before .before .before .before .before .before .before .before .args .bytes .now in
+    let g = c .before .before .before .before .number-of .result in
+    in-range b g (accepted b (c .before .before .before .before .before .before .before .read .ensures) (c .before .before .before .before .before .enum-told .given .1)) (tested b g (c .before .before .inside .ensures) (c .before .if1 .taken) (c .before .before .before .goal-count .ensures))
 
--- src/lib.rt:89:17
 returns : tie.Need-returns
 returns c =
-    let b = c .before .before .before .before .before .before .before .before .before .args .bytes .now in
-    let g = c .before .before .before .before .before .before .before .before .before .args .goal in
-    text-at b g (c .before .before .before .before .before .before .before .read .ensures) (c .before .before .before .before .before .enum-told .given .1) (tested b g (c .before .before .before .inside .ensures) (c .before .before .if1 .taken) (c .before .before .before .before .goal-count .ensures)) (c .before .text-place .ensures .0) (c .text-length .ensures .0)
+    let b = c .before .before .before .before .before .before .before .before .before .before .args .bytes .now in
+    let g = c .before .before .before .before .before .number-of .result in
+    text-at b g (c .before .before .before .before .before .before .before .before .read .ensures) (c .before .before .before .before .before .before .enum-told .given .1) (tested b g (c .before .before .before .inside .ensures) (c .before .before .if1 .taken) (c .before .before .before .before .goal-count .ensures)) (c .before .text-place .ensures .0) (c .text-length .ensures .0)
+    ∙ ap (goalText b) (c .before .before .before .before .before .number-of .ensures)
 
--- src/lib.rt:79:1
 returns-2 : tie.Need-returns-2
 returns-2 c = text-refused _ _ _ (c .before .before .before .read .ensures) (c .before .r .given .1)
 
--- src/lib.rt:79:1
 returns-3 : tie.Need-returns-3
 returns-3 c =
-    let b = c .before .before .before .before .before .before .before .args .bytes .now in
-    let g = c .before .before .before .before .before .before .before .args .goal in
-    text-outside b g (c .before .before .before .before .before .read .ensures) (c .before .before .before .enum-told .given .1) (tested b g (c .before .inside .ensures) (c .if1 .left) (c .before .before .goal-count .ensures))
+    let b = c .before .before .before .before .before .before .before .before .args .bytes .now in
+    let g = c .before .before .before .number-of .result in
+    text-outside b g (c .before .before .before .before .before .before .read .ensures) (c .before .before .before .before .enum-told .given .1) (tested b g (c .before .inside .ensures) (c .if1 .left) (c .before .before .goal-count .ensures))
+    ∙ ap (goalText b) (c .before .before .before .number-of .ensures)
 
 pub find-text-spec : {M : Type 1} → statement M
 find-text-spec =
@@ -69,6 +70,7 @@ find-text-spec =
     read-requires
     enum-known-r
     enum-told
+    number-of-requires
     goal-count-requires
     inside-requires
     text-place-requires

@@ -3,14 +3,15 @@ use mathlib.Core.Path.{sym}
 use native.Mathlib.Nat.{le-trans}
 use lib.Seq.{length-take-le}
 use borrow.Author.Needs.{needs}
-use Rattle.sheet_limits.proofs.show.Statement.{statement}
-use Rattle.sheet_limits.proofs.show.Tie as tie
+use Rattle.page.proofs.print.Statement.{statement}
+use Rattle.page.proofs.print.Tie as tie
+use Rattle.page.proofs.print.Reads as reads
+use Rattle.page.proofs.print.Lts as lts
+use Rattle.io.proofs.write_all.Reads as write-all-reads
+use Rattle.page.proofs.write.Reads as write-reads
 
 slice-aggregate-write : tie.Need-slice-aggregate-write
 slice-aggregate-write c = search needs
-
-slice-aggregate-write-2 : tie.Need-slice-aggregate-write-2
-slice-aggregate-write-2 c = search needs
 
 write-requires : tie.Need-write-requires
 write-requires c κs = search needs
@@ -20,17 +21,17 @@ slice-aggregate-lines c = search needs
 
 slice-aggregate-write-all : tie.Need-slice-aggregate-write-all
 slice-aggregate-write-all c =
-    let w = c .before .before .before .before .write .ensures .0 in
+    let w = c .before .before .before .before .before .write .ensures .0 in
     sym (length-take-le _ _ (le-trans (w .top-to) (w .end-to)))
 
 write-all-requires : tie.Need-write-all-requires
 write-all-requires c κs = search needs
 
-array-share-prefix-text : tie.Need-array-share-prefix-text
-array-share-prefix-text c = search needs
+slice-reshare-prefix-write-all : tie.Need-slice-reshare-prefix-write-all
+slice-reshare-prefix-write-all c = search needs
 
 slice-aggregate-write-all-2 : tie.Need-slice-aggregate-write-all-2
-slice-aggregate-write-all-2 c = sym (length-take-le _ _ (c .before .before .before .before .before .before .write .ensures .0 .mel-to))
+slice-aggregate-write-all-2 c = sym (length-take-le _ _ (c .before .before .before .before .before .before .before .write .ensures .0 .mel-to))
 
 write-all-requires-2 : tie.Need-write-all-requires-2
 write-all-requires-2 c κs = search needs
@@ -47,24 +48,27 @@ part-write-all-end c = search needs
 write-all-requires-3 : tie.Need-write-all-requires-3
 write-all-requires-3 c κs = search needs
 
+same-length : tie.Need-same-length
+same-length c = search needs
+
 returns : tie.Need-returns
 returns c = search needs
 
-pub show-spec : {M : Type 1} → statement M
-show-spec =
+pub print-spec : {M : Type 1} → statement M
+print-spec =
     tie.close
     (tie.spec
     slice-aggregate-write
-    slice-aggregate-write-2
     write-requires
     slice-aggregate-lines
     slice-aggregate-write-all
     write-all-requires
-    array-share-prefix-text
+    slice-reshare-prefix-write-all
     slice-aggregate-write-all-2
     write-all-requires-2
     sub-write-all
     part-write-all-start
     part-write-all-end
     write-all-requires-3
+    same-length
     returns)
