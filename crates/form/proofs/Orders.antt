@@ -1,5 +1,5 @@
 -- Two relations that agree on the goals have the same N and the same form; so the rows of a record's order settle what its order settles.
-use mathlib.Core.Path.{_≡_, refl, sym, ap, ap₂, _∙_}
+use mathlib.Core.Path.{_≡_, refl, sym, ap, ap₂, _∙_, subst}
 use mathlib.Core.Bool.{Bool}
 use mathlib.Core.List.{List}
 use mathlib.Core.Option.{Option, none, some}
@@ -8,9 +8,9 @@ use Rattle.reading.specs.declared.Reading.the-variants.{Fine}
 use Rattle.reading.specs.Reading.{reading}
 use Rattle.fields.specs.Fields.{goalCount}
 use Rattle.record.proofs.WellFormed.{fine-well-formed}
-use Rattle.graph.specs.Graph.{ahead, rowsOf}
+use Rattle.graph.specs.Graph.{ahead, rowsOf, Within}
 use Rattle.graph.specs.declared.Graph.{Graph}
-use Rattle.graph.proofs.Rows.{rows-say}
+use Rattle.graph.proofs.Rows.{rows-say, rows-within}
 use Rattle.expression.specs.Expr.{Expr, Goals, HouseForm, N, NoN, Order}
 use Rattle.expression.specs.Form.{form}
 use Rattle.expression.specs.Arrange.{Strict, formAny}
@@ -87,9 +87,11 @@ module _ (b : List ℕ) (fine : reading b ≡ Fine) where
   rows-agree i j p q = rows-say (goalCount b) (before b) i j goals-to (p .0) (p .1) (q .0) (q .1)
 
   module _ (g : Graph) (e : g ≡ order b) where
-    pub graph-asks : (1 ≤ g .n) × (g .n ≤ 32) × Strict (ahead (g .rows)) (Goals (g .n))
+    pub graph-asks : (1 ≤ g .n) × (g .n ≤ 32) × Strict (ahead (g .rows)) (Goals (g .n)) × Within (g .n) (g .rows)
     unfolding order
-    graph-asks = rw e (goals-from, goals-to, strict-rows (ahead (rowsOf (goalCount b) (before b))) (before b) (goalCount b) rows-agree goals-from (before-order b))
+    graph-asks =
+        subst (λ (x : Graph). (1 ≤ x .n) × (x .n ≤ 32) × Strict (ahead (x .rows)) (Goals (x .n)) × Within (x .n) (x .rows)) (sym e)
+        (goals-from, goals-to, strict-rows (ahead (rowsOf (goalCount b) (before b))) (before b) (goalCount b) rows-agree goals-from (before-order b), rows-within (goalCount b) (before b) goals-to)
 
     pub graph-plan : settled (firstN (ahead (g .rows)) (g .n)) (text (formAny (ahead (g .rows)) (g .n))) ≡ plan b
     unfolding order

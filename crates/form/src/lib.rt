@@ -7,7 +7,7 @@ use refusal::Refusal;
 ghost use mathlib.Core.Path.{_≡_};
 ghost use Prim.Native.Nat.{_≤_};
 ghost use denote.Ref.{now};
-ghost use Rattle.graph.specs.Graph.{ahead};
+ghost use Rattle.graph.specs.Graph.{ahead, Within};
 ghost use Rattle.expression.specs.Expr.{Goals};
 ghost use Rattle.expression.specs.Arrange.{Strict, formAny};
 ghost use Rattle.expression.specs.Search.{firstN};
@@ -36,7 +36,7 @@ const LONGEST: usize = 146;
 // Writes the form of the goals 1 to n in the order that the rows say, any strict order; or refuses with 13, or with 12. A buffer that holds every form
 // needs no counting before the text is stored.
 fn write_rows(rows: &[u32; 32], n: usize, out: &mut [u8]) -> Written
-    requires { ⌜ (1 ≤ n) × (n ≤ 32) × Strict (ahead (now rows)) (Goals n) ⌝ }
+    requires { ⌜ (1 ≤ n) × (n ≤ 32) × Strict (ahead (now rows)) (Goals n) × Within n (now rows) ⌝ }
     ensures { λ r.
         ⌜ F.values r
         ≡ F.answer (F.settled (firstN (ahead (now (rows .entry))) n) (T.text (formAny (ahead (now (rows .entry))) n))) (now (out .entry)) ⌝ }
@@ -69,7 +69,7 @@ fn write_rows(rows: &[u32; 32], n: usize, out: &mut [u8]) -> Written
 
 // The length of that form's text, counted; or refusal 13.
 fn length_rows(rows: &[u32; 32], n: usize) -> Estimate
-    requires { ⌜ (1 ≤ n) × (n ≤ 32) × Strict (ahead (now rows)) (Goals n) ⌝ }
+    requires { ⌜ (1 ≤ n) × (n ≤ 32) × Strict (ahead (now rows)) (Goals n) × Within n (now rows) ⌝ }
     ensures { λ r.
         ⌜ F.Estimated (F.settled (firstN (ahead (now (rows .entry))) n) (T.text (formAny (ahead (now (rows .entry))) n))) (F.estimate r) ⌝ }
 {

@@ -14,7 +14,7 @@ use Rattle.sets.proofs.Laws.{has-above}
 use Rattle.sets.proofs.Builder.{setOf-lt, has-setOf-in, setOf-ext, setOf-more}
 use Rattle.arrays.proofs.Table.{table-length, table-at, table-past, table-ext}
 use Rattle.arrays.specs.Table.{table}
-use Rattle.graph.specs.Graph.{hasGoal, ahead, goalsOf, rowsOf, column, transposed}
+use Rattle.graph.specs.Graph.{hasGoal, ahead, goalsOf, rowsOf, Within, transposed}
 
 -- the set of goals of which f holds
 pub goals-has : (n : ℕ) (f : ℕ → Bool) (g : ℕ) → 1 ≤ g → g ≤ n → hasGoal (goalsOf n f) g ≡ f g
@@ -75,32 +75,17 @@ rows-cong n R Q h e =
     rows-ext n Q (rowsOf n R) h (rows-length n R) (λ i k. row-lt n R i h) (λ i j a b c d. rows-say n R i j h a b c d ∙ e i j a b c d)
     (λ i b k. row-past n R i k)
 
+-- the rows of a relation have nothing but pairs of the goals
+pub rows-within : (n : ℕ) (R : ℕ → ℕ → Bool) → n ≤ 32 → Within n (rowsOf n R)
+rows-within n R h = rows-cong n R (ahead (rowsOf n R)) h (λ i j a b c d. sym (rows-say n R i j h a b c d))
+
 -- no goals, no rows
 pub rows-zero : (R : ℕ → ℕ → Bool) → replicate 32 0 ≡ rowsOf 0 R
 rows-zero R =
     rows-ext 0 R (replicate 32 0) (omega arith) (length-replicate {A = ℕ} 32 0) (λ i k. absurd (omega arith)) (λ i j a b c d. absurd (omega arith))
     (λ i b k. getD-replicate {A = ℕ} 32 i 0 0 b)
 
--- ---- the goals before a goal, found one after another
-pub column-none : (rows : List ℕ) (j : ℕ) → 0 ≡ column rows 0 j
-unfolding column goalsOf
-column-none rows j = setOf-ext 0 0 (λ i. ahead rows (suc i) (suc j)) (pow-pos 0) (λ i l. absurd (omega arith))
-
-pub column-in : (rows : List ℕ) (i j : ℕ) → has (getD rows i 0) j ≡ true → column rows (i + 1) j ≡ union (column rows i j) (single i)
-unfolding column goalsOf
-column-in rows i j h =
-    rw (add-one i) (setOf-more i (λ k. ahead rows (suc k) (suc j)) ∙ ap (λ (b : Bool). cond b (union (setOf i (λ k. ahead rows (suc k) (suc j))) (single i)) (setOf i (λ k. ahead rows (suc k) (suc j)))) h)
-
-pub column-out : (rows : List ℕ) (i j : ℕ) → has (getD rows i 0) j ≡ false → column rows (i + 1) j ≡ column rows i j
-unfolding column goalsOf
-column-out rows i j h =
-    rw (add-one i) (setOf-more i (λ k. ahead rows (suc k) (suc j)) ∙ ap (λ (b : Bool). cond b (union (setOf i (λ k. ahead rows (suc k) (suc j))) (single i)) (setOf i (λ k. ahead rows (suc k) (suc j)))) h)
-
 -- ---- rows with every edge turned round
-pub transposed-is : (n : ℕ) (rows : List ℕ) → table 32 n (λ j. column rows n j) ≡ transposed n rows
-unfolding transposed rowsOf column
-transposed-is n rows = refl
-
 pub transposed-length : (n : ℕ) (rows : List ℕ) → length (transposed n rows) ≡ 32
 unfolding transposed
 transposed-length n rows = rows-length n (λ j i. ahead rows i j)

@@ -1,4 +1,5 @@
 -- Sets of goals and dependency graphs. Goal g stands at bit g - 1 of a set, and at row g - 1 of a graph.
+use mathlib.Core.Path.{_≡_}
 use mathlib.Core.Bool.{Bool, false}
 use mathlib.Core.List.{List}
 use Prim.Native.Nat.{ℕ, zero, suc}
@@ -33,9 +34,9 @@ graphOf n R = record { n = n; rows = rowsOf n R }
 abbrev pub edgeless : ℕ → Graph
 edgeless n = record { n = n; rows = replicate 32 0 }
 
--- those of the goals 1 to n that the rows have before goal j + 1
-unfoldable pub column : List ℕ → ℕ → ℕ → ℕ
-column rows n j = goalsOf n (λ i. ahead rows i (suc j))
+-- the rows have nothing but pairs of the goals 1 to n
+abbrev pub Within : ℕ → List ℕ → Type 0
+Within n rows = rows ≡ rowsOf n (ahead rows)
 
 -- the rows of the goals 1 to n with every edge turned round
 unfoldable pub transposed : ℕ → List ℕ → List ℕ

@@ -1,10 +1,11 @@
 // The dependency graph of a clause by value: the goal count, and for each goal the set of goals that it is before.
 ghost use mathlib.Core.Path.{_≡_};
-ghost use Prim.Native.Nat.{_-_, _≤_, _<_};
+ghost use Prim.Native.Nat.{_+_, _-_, _*_, _%_, _≤_, _<_};
 ghost use denote.Ref.{now};
 ghost use lib.ListN.{getD};
 ghost use Rattle.sets.specs.Sets as S;
 ghost use Rattle.graph.specs.Graph as G;
+ghost use Rattle.graph.specs.Exchange as X;
 
 // Row g - 1 is the set of the goals that goal g is before, goal h at bit h - 1; rows past the count are zero.
 pub struct Graph {
@@ -42,30 +43,61 @@ impl Graph {
     }
 }
 
-// The goals that are before goal j + 1.
-fn column(rows: &[u32; Graph::MAX], n: usize, j: usize) -> u32
-    requires { ⌜ (n ≤ 32) × (j < 32) ⌝ }
-    ensures { λ r. ⌜ r ≡ G.column (now (rows .entry)) n j ⌝ }
+// The two rows that an exchange makes of two rows `width` apart: each keeps its bits on its own half, and the one's bits on the other's half change places.
+fn near_row(near: u32, far: u32, width: usize, half: u32) -> u32
+    requires { ⌜ X.Width width × (half ≡ X.half width) ⌝ }
+    ensures { λ r. ⌜ X.NearRow width near far r ⌝ }
 {
-    let mut set = 0u32;
-    for i in 0..n {
-        let row = rows[i];
-        if sets::has32(row, j) {
-            let one = sets::single32(i);
-            set = sets::union32(set, one);
+    (near & half) | ((far & half) << width)
+}
+
+fn far_row(near: u32, far: u32, width: usize, half: u32) -> u32
+    requires { ⌜ X.Width width × (half ≡ X.half width) ⌝ }
+    ensures { λ r. ⌜ X.FarRow width near far r ⌝ }
+{
+    ((near >> width) & half) | sets::without32(far, half)
+}
+
+// Exchanges the rows of a block with those `width` further on.
+fn exchange_block(rows: &mut [u32; Graph::MAX], start: usize, width: usize, half: u32)
+    requires { ⌜ X.Width width × (half ≡ X.half width) × (start % (2 * width) ≡ 0) × (start + 2 * width ≤ 32) × X.Words (now rows) ⌝ }
+    ensures { λ _. ⌜ X.Block width start (now (rows .entry)) (now (rows .exit)) ⌝ }
+{
+    let end = start + width;
+    let mut i = start;
+    while i < end {
+        let near = rows[i];
+        let far = rows[i + width];
+        rows[i] = near_row(near, far, width, half);
+        rows[i + width] = far_row(near, far, width, half);
+        i += 1;
+    }
+}
+
+// A round of exchanges; where no goal is past the width there is nothing to exchange.
+fn exchange(rows: &mut [u32; Graph::MAX], n: usize, width: usize, half: u32)
+    requires { ⌜ X.Width width × (half ≡ X.half width) × (n ≤ 32) × X.Words (now rows) ⌝ }
+    ensures { λ _. ⌜ X.Round width n (now (rows .entry)) (now (rows .exit)) × X.Words (now (rows .exit)) ⌝ }
+{
+    if width < n {
+        let mut start = 0;
+        while start < n {
+            exchange_block(rows, start, width, half);
+            start = start + width + width;
         }
     }
-    set
 }
 
 // The rows with every edge turned round: row j has the goals that are before goal j + 1.
 pub fn transposed(rows: &[u32; Graph::MAX], n: usize) -> [u32; Graph::MAX]
-    requires { ⌜ n ≤ 32 ⌝ }
+    requires { ⌜ (n ≤ 32) × G.Within n (now rows) ⌝ }
     ensures { λ r. ⌜ r ≡ G.transposed n (now (rows .entry)) ⌝ }
 {
-    let mut prior = [0u32; Graph::MAX];
-    for j in 0..n {
-        prior[j] = column(rows, n, j);
-    }
-    prior
+    let mut turned = *rows;
+    exchange(&mut turned, n, 16, 0x0000_ffff);
+    exchange(&mut turned, n, 8, 0x00ff_00ff);
+    exchange(&mut turned, n, 4, 0x0f0f_0f0f);
+    exchange(&mut turned, n, 2, 0x3333_3333);
+    exchange(&mut turned, n, 1, 0x5555_5555);
+    turned
 }

@@ -1,64 +1,53 @@
 use borrow.Author.Needs.{needs}
-use native.Mathlib.Omega.{arith}
-use mathlib.Core.Path.{_≡_, refl, sym, ap, _∙_}
-use Prim.Native.Nat.{ℕ, _-_, _≤_}
-use Rattle.arrays.specs.Table.{table}
-use Rattle.arrays.proofs.Table.{table-zero, table-more}
-use Rattle.graph.specs.Graph.{column}
-use Rattle.graph.proofs.Rows.{transposed-is}
+use mathlib.Core.Path.{refl}
+use mathlib.Core.Logic.{inl, inr}
+use denote.Ref.{now}
+use Rattle.graph.proofs.Widths.{half-16, half-8, half-4, half-2, half-1}
+use Rattle.graph.proofs.Turning.{within-words, exchanged-start, exchanged-end}
 use Rattle.graph.proofs.transposed.Statement.{statement}
 use Rattle.graph.proofs.transposed.Tie as tie
 use Rattle.graph.proofs.transposed.Reads as reads
 use Rattle.graph.proofs.transposed.Lts as lts
-use Rattle.graph.proofs.column.Reads as column-reads
+use Rattle.graph.proofs.exchange.Reads as exchange-reads
 
-abbrev Inv-loop : tie.InvT-loop
-Inv-loop rows n prior₀ j₀ prior j = (j ≤ n) × (prior ≡ table 32 j (λ i. column rows n i))
+exchange-requires : tie.Need-exchange-requires
+exchange-requires c κs =
+    let s = c .before .before in
+    (inl refl, half-16, s .pre .0, within-words _ _ (s .pre .0) (s .pre .1))
 
-abbrev μ-loop : tie.MeasureT-loop
-μ-loop rows n prior₀ j₀ prior j = n - j
+exchange-requires-2 : tie.Need-exchange-requires-2
+exchange-requires-2 c κs = (inr (inl refl), half-8, c .before .before .before .before .pre .0, c .before .exchange .ensures .1)
 
-loop-holds : tie.Need-loop-holds Inv-loop μ-loop
-loop-holds c = (search needs, table-zero 32 _)
+exchange-requires-3 : tie.Need-exchange-requires-3
+exchange-requires-3 c κs =
+    (inr (inr (inl refl)), half-4, c .before .before .before .before .before .before .pre .0, c .before .exchange2 .ensures .1)
 
-column-requires : tie.Need-column-requires Inv-loop μ-loop
-column-requires c κs = search needs
+exchange-requires-4 : tie.Need-exchange-requires-4
+exchange-requires-4 c κs =
+    (inr (inr (inr (inl refl))), half-2, c .before .before .before .before .before .before .before .before .pre .0, c .before .exchange3 .ensures .1)
 
-mul-prior : tie.Need-mul-prior Inv-loop μ-loop
-mul-prior c = search needs
+exchange-requires-5 : tie.Need-exchange-requires-5
+exchange-requires-5 c κs =
+    (inr (inr (inr (inr refl))), half-1, c .before .before .before .before .before .before .before .before .before .before .pre .0, c .before .exchange4 .ensures .1)
 
-array-write-prior : tie.Need-array-write-prior Inv-loop μ-loop
-array-write-prior c = search needs
-
-add-j : tie.Need-add-j Inv-loop μ-loop
-add-j c = search needs
-
-loop-less : tie.Need-loop-less Inv-loop μ-loop
-loop-less c = search needs
-
-loop-again : tie.Need-loop-again Inv-loop μ-loop
-loop-again c =
-    let l = c .before .before .loop in
-    (search needs, table-more 32 _ _ _ _ (omega arith) (l .inv .1) (c .column .ensures))
-
-returns : tie.Need-returns Inv-loop μ-loop
+returns : tie.Need-returns
 returns c =
-    let e : c .before .loop .j ≡ c .before .before .args .n = omega arith in
-    c .before .loop .inv .1
-    ∙ ap (λ (j : ℕ). table 32 j (λ i. column (c .before .before .args .rows .now) (c .before .before .args .n) i)) e
-    ∙ transposed-is _ _
+    let d = c .before .before in
+    let e = d .before .before in
+    let f = e .before .before in
+    let g = f .before .before in
+    let s = g .before .before .before in
+    let w = s .pre .1 in
+    exchanged-end _ _ (s .pre .0) w _ (c .exchange5 .ensures .1)
+    (c .exchange5 .ensures .0 _ w (d .exchange4 .ensures .0 _ w (e .exchange3 .ensures .0 _ w (f .exchange2 .ensures .0 _ w (g .exchange .ensures .0 _ w (exchanged-start (now (s .args .rows))))))))
 
 pub transposed-spec : {M : Type 1} → statement M
 transposed-spec =
     tie.close
     (tie.spec
-    Inv-loop
-    μ-loop
-    loop-holds
-    column-requires
-    mul-prior
-    array-write-prior
-    add-j
-    loop-less
-    loop-again
+    exchange-requires
+    exchange-requires-2
+    exchange-requires-3
+    exchange-requires-4
+    exchange-requires-5
     returns)
