@@ -150,18 +150,20 @@ closes-none d x b closer i m = refl
 closes-none d x b other i m = refl
 
 module _ (s rows : List ℕ) (r : Part) (now : List ℕ) (h : Sequence s 0 0 rows r now) where
-  pub whole-bad : (p : ℕ) → r ≡ Bad p → Parsed s rows (Bad p) now
-  whole-bad p q = (subst (λ z. Sequence s 0 0 rows z now) q h) 32 [] none none refl
+  pub whole-bad : (p : ℕ) → r ≡ Bad p → Parsed s rows (Bad p) rows
+  whole-bad p q = ((subst (λ z. Sequence s 0 0 rows z now) q h) 32 [] none none refl, refl)
 
   module _ (n : Node) (q : r ≡ Read n) where
     outer : Sequence s 0 0 rows (Read n) now
     outer = subst (λ z. Sequence s 0 0 rows z now) q h
 
-    pub whole-left : n .end < length s → Parsed s rows (Bad (n .end)) now
-    whole-left lt =
-        outer .5 32 [] none none refl
-        ∙ run-at s (n .end) (state 32 [] none none (done (outer .0))) lt
-        ∙ ap (λ o. onward o (n .end) (λ r. run (drop (suc (n .end)) s) (suc (n .end)) r)) (closes-none 32 (outer .0) (getD s (n .end) 0) (sign (getD s (n .end) 0)) (sign-is (getD s (n .end) 0)) (outer .3))
+    pub whole-left : n .end < length s → Parsed s rows (Bad (n .end)) rows
+    whole-left lt = (
+      outer .5 32 [] none none refl
+          ∙ run-at s (n .end) (state 32 [] none none (done (outer .0))) lt
+          ∙ ap (λ o. onward o (n .end) (λ r. run (drop (suc (n .end)) s) (suc (n .end)) r)) (closes-none 32 (outer .0) (getD s (n .end) 0) (sign (getD s (n .end) 0)) (sign-is (getD s (n .end) 0)) (outer .3)),
+      refl,
+    )
 
     pub whole-done : length s ≤ n .end → Parsed s rows (Read n) now
     whole-done le =

@@ -99,7 +99,7 @@ abbrev pub Bare : List ℕ → ℕ → ℕ → Wrapped → Type 0
 Bare s a depth (Number node) = (rows : List ℕ) → Words rows → Primary s a depth rows (Read node) rows
 Bare s a depth Other = Unit {0}
 
--- The whole text: the grammar's reader refuses it, or accepts it with an expression of which the node and the rows tell.
+-- The whole text: the grammar's reader refuses it, and the rows are as before; or it accepts it with an expression of which the node and the rows tell.
 abbrev pub Parsed : List ℕ → List ℕ → Part → List ℕ → Type 0
-Parsed s rows (Bad p) now = read 32 s ≡ refused p
+Parsed s rows (Bad p) now = (read 32 s ≡ refused p) × (now ≡ rows)
 Parsed s rows (Read node) now = (x : Expr) × (read 32 s ≡ accepted x) × (node .end ≡ length s) × Told x rows (node .kind) (node .set) (node .extra) now

@@ -280,17 +280,22 @@ fn primary(text: &[u8], at: usize, depth: usize, rows: &mut [u32; 32]) -> Part
     }
 }
 
-// The whole text.
+// The whole text. A refusal leaves the rows as they were.
 pub fn parse(text: &[u8], rows: &mut [u32; 32]) -> Part
     requires { ⌜ Words (now rows) ⌝ }
     ensures { λ r. ⌜ Parsed (now (text .entry)) (now (rows .entry)) r (now (rows .exit)) ⌝ }
 {
+    let kept = *rows;
     let part = sequence(text, 0, 0, rows);
     match part {
-        Part::Bad(p) => Part::Bad(p),
+        Part::Bad(p) => {
+            *rows = kept;
+            Part::Bad(p)
+        }
         Part::Read(node) => {
             let end = node.end;
             if end < text.len() {
+                *rows = kept;
                 Part::Bad(end)
             } else {
                 part

@@ -148,7 +148,7 @@ module _ (n : ℕ) (s : List ℕ) where
 
     module _ (r : Part) (now : List ℕ) (h : Parsed s (replicate 32 0) r now) where
       pub text-bad : (p : ℕ) → r ≡ Bad p → refusal 16 p ≡ readText n s
-      text-bad p e = sym (sized ∙ ap (λ z. decided n s z) (subst (λ z. Parsed s (replicate 32 0) z now) e h))
+      text-bad p e = sym (sized ∙ ap (λ z. decided n s z) ((subst (λ z. Parsed s (replicate 32 0) z now) e h) .0))
 
       module _ (nd : Node) (q : r ≡ Done nd) where
         parsed : Parsed s (replicate 32 0) (Done nd) now
