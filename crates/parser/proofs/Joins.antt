@@ -17,7 +17,7 @@ use Rattle.parser.specs.declared.Node.{Node}
 use Rattle.parser.specs.declared.Part.{Part}
 use Rattle.parser.specs.declared.Part.the-variants.{Read, Bad}
 use Rattle.parser.specs.Reads.{Comes, within, Answer, NoAnd, NoMark}
-use Rattle.parser.proofs.Tells.{joinKind, FrontTold, Links, told-alone, told-push, told-close}
+use Rattle.parser.proofs.Tells.{joinKind, FrontTold, Links, clash, told-alone, told-push, told-close}
 use Rattle.parser.proofs.Runs.{takes, alike}
 
 -- ---- what the next byte is not
@@ -77,18 +77,18 @@ abbrev Shape : ℕ → ℕ → Front → Type 0
 Shape a₀ a none = a ≡ a₀
 Shape a₀ a (some f) = a₀ < a
 
-pub record Looped (k : Bool) (s : List ℕ) (depth a₀ a : ℕ) (rows₀ : List ℕ) (set : ℕ) (rows : List ℕ) : Type 0 where
+pub record Looped (k : Bool) (s : List ℕ) (depth a₀ a : ℕ) (rows₀ : List ℕ) (set extra : ℕ) (rows : List ℕ) : Type 0 where
   pub front : Front
   pub from : a₀ ≤ a
   pub shape : Shape a₀ a front
-  pub told : FrontTold k front rows₀ set rows
+  pub told : FrontTold k front rows₀ set extra rows
   pub words : Words rows
   pub comes : (d : ℕ) (os : List Level) (g : Front) → d + depth ≡ 32 → Comes s a₀ (within k d os g none due) a (within k d os g front due)
 
-pub loop-start : (k : Bool) (s : List ℕ) (depth a : ℕ) (rows : List ℕ) → Words rows → Looped k s depth a a rows 0 rows
+pub loop-start : (k : Bool) (s : List ℕ) (depth a : ℕ) (rows : List ℕ) → Words rows → Looped k s depth a a rows 0 0 rows
 loop-start k s depth a rows w = record { front = none; from = omega arith; shape = refl; told = (refl, refl); words = w; comes = λ d os g q. refl }
 
-module _ (k : Bool) (s : List ℕ) (depth a₀ a : ℕ) (rows₀ : List ℕ) (set : ℕ) (rows : List ℕ) (l : Looped k s depth a₀ a rows₀ set rows) where
+module _ (k : Bool) (s : List ℕ) (depth a₀ a : ℕ) (rows₀ : List ℕ) (set extra : ℕ) (rows : List ℕ) (l : Looped k s depth a₀ a rows₀ set extra rows) where
   module _ (r : Part) (mid : List ℕ) (h : MemberAnswer k s a depth rows r mid) where
     pub loop-bad : (p : ℕ) → r ≡ Bad p → (now : List ℕ) → JoinedAnswer k s a₀ depth rows₀ (Bad p) now
     loop-bad p e now =
@@ -105,7 +105,7 @@ module _ (k : Bool) (s : List ℕ) (depth a₀ a : ℕ) (rows₀ : List ℕ) (se
       pub loop-words : Words mid
       loop-words = ended .4 .words
 
-      pub loop-more : (now : List ℕ) → Links k set (n .set) mid now → getD s (n .end) 0 ≡ mark k → Looped k s depth a₀ (n .end + 1) rows₀ (union set (n .set)) now
+      pub loop-more : (now : List ℕ) → Links k set (n .set) mid now → getD s (n .end) 0 ≡ mark k → Looped k s depth a₀ (n .end + 1) rows₀ (union set (n .set)) (clash extra (n .extra) set (n .set)) now
       loop-more now ln b =
           let m = ended in
           let x = m .0 in
@@ -115,7 +115,7 @@ module _ (k : Bool) (s : List ℕ) (depth a₀ a : ℕ) (rows₀ : List ℕ) (se
             front = some (push k (l .front) x);
             from = omega arith;
             shape = omega arith;
-            told = told-push k rows₀ set rows x (n .kind) (n .set) mid now (l .front) (l .told) (m .4) ln;
+            told = told-push k rows₀ set extra rows x (n .kind) (n .set) (n .extra) mid now (l .front) (l .told) (m .4) ln;
             words = ln .words;
             comes = λ d os g p.
                 l .comes d os g p ∙ m .5 d os g (l .front) p
@@ -132,7 +132,7 @@ module _ (k : Bool) (s : List ℕ) (depth a₀ a : ℕ) (rows₀ : List ℕ) (se
       pub loop-one : (now : List ℕ) → a ≡ a₀ → Links k set (n .set) mid now → ((getD s (n .end) 0 ≡ mark k) → ⊥) → JoinedAnswer k s a₀ depth rows₀ (Read n) now
       loop-one now same ln b = go (l .front) (l .shape) (l .told) (l .comes)
         where
-          go : (f : Front) → Shape a₀ a f → FrontTold k f rows₀ set rows → ((d : ℕ) (os : List Level) (g : Front) → d + depth ≡ 32 → Comes s a₀ (within k d os g none due) a (within k d os g f due))
+          go : (f : Front) → Shape a₀ a f → FrontTold k f rows₀ set extra rows → ((d : ℕ) (os : List Level) (g : Front) → d + depth ≡ 32 → Comes s a₀ (within k d os g none due) a (within k d os g f due))
               → JoinedAnswer k s a₀ depth rows₀ (Read n) now
           go none sh td cm =
               let m = ended in (
@@ -140,17 +140,17 @@ module _ (k : Bool) (s : List ℕ) (depth a₀ a : ℕ) (rows₀ : List ℕ) (se
                 omega (arith, m .1),
                 m .2,
                 stop k (getD s (n .end) 0) (m .3) b,
-                told-alone k rows₀ set rows (m .0) (n .kind) (n .set) mid now td (m .4) ln,
+                told-alone k rows₀ set extra rows (m .0) (n .kind) (n .set) (n .extra) mid now td (m .4) ln,
                 λ d os g f p. cm d os g p ∙ m .5 d os g none p,
               )
           go (some f) sh td cm = absurd (omega arith)
 
       pub loop-end : (now : List ℕ) → ((a ≡ a₀) → ⊥) → Links k set (n .set) mid now → ((getD s (n .end) 0 ≡ mark k) → ⊥)
-          → JoinedAnswer k s a₀ depth rows₀ (Read (record { kind = joinKind k; set = union set (n .set); end = n .end })) now
+          → JoinedAnswer k s a₀ depth rows₀ (Read (record { kind = joinKind k; set = union set (n .set); extra = clash extra (n .extra) set (n .set); end = n .end })) now
       loop-end now other-place ln b = go (l .front) (l .shape) (l .told) (l .comes)
         where
-          go : (f : Front) → Shape a₀ a f → FrontTold k f rows₀ set rows → ((d : ℕ) (os : List Level) (g : Front) → d + depth ≡ 32 → Comes s a₀ (within k d os g none due) a (within k d os g f due))
-              → JoinedAnswer k s a₀ depth rows₀ (Read (record { kind = joinKind k; set = union set (n .set); end = n .end })) now
+          go : (f : Front) → Shape a₀ a f → FrontTold k f rows₀ set extra rows → ((d : ℕ) (os : List Level) (g : Front) → d + depth ≡ 32 → Comes s a₀ (within k d os g none due) a (within k d os g f due))
+              → JoinedAnswer k s a₀ depth rows₀ (Read (record { kind = joinKind k; set = union set (n .set); extra = clash extra (n .extra) set (n .set); end = n .end })) now
           go none sh td cm = absurd (other-place sh)
           go (some f) sh td cm =
               let m = ended in (
@@ -158,6 +158,6 @@ module _ (k : Bool) (s : List ℕ) (depth a₀ a : ℕ) (rows₀ : List ℕ) (se
                 omega (arith, m .1),
                 m .2,
                 stop k (getD s (n .end) 0) (m .3) b,
-                told-close k rows₀ set rows (m .0) (n .kind) (n .set) mid now f td (m .4) ln,
+                told-close k rows₀ set extra rows (m .0) (n .kind) (n .set) (n .extra) mid now f td (m .4) ln,
                 λ d os g f′ p. cm d os g p ∙ m .5 d os g (some f) p ∙ settled (m .0) b (m .3) (some f) d os g,
               )

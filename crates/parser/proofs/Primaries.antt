@@ -115,7 +115,7 @@ module _ (s : List ℕ) (a depth : ℕ) (rows : List ℕ) (byte : getD s a 0 ≡
       inner : Sequence s (a + 1) (depth + 1) rows (Read n) now
       inner = subst (λ z. Sequence s (a + 1) (depth + 1) rows z now) q h
 
-      pub pri-shut : getD s (n .end) 0 ≡ 41 → Primary s a depth rows (Read (record { kind = n .kind; set = n .set; end = n .end + 1 })) now
+      pub pri-shut : getD s (n .end) 0 ≡ 41 → Primary s a depth rows (Read (record { kind = n .kind; set = n .set; extra = n .extra; end = n .end + 1 })) now
       pri-shut b =
           let lt : n .end < length s = inside s (n .end) 41 (omega arith) b in
           (inner .0, omega (arith, inner .1), omega arith, tt, inner .4, λ d. go d)
@@ -150,19 +150,21 @@ closes-none d x b closer i m = refl
 closes-none d x b other i m = refl
 
 module _ (s rows : List ℕ) (r : Part) (now : List ℕ) (h : Sequence s 0 0 rows r now) where
-  pub whole-bad : (p : ℕ) → r ≡ Bad p → Parsed s rows (Bad p) now
-  whole-bad p q = (subst (λ z. Sequence s 0 0 rows z now) q h) 32 [] none none refl
+  pub whole-bad : (p : ℕ) → r ≡ Bad p → Parsed s rows (Bad p) rows
+  whole-bad p q = ((subst (λ z. Sequence s 0 0 rows z now) q h) 32 [] none none refl, refl)
 
   module _ (n : Node) (q : r ≡ Read n) where
     outer : Sequence s 0 0 rows (Read n) now
     outer = subst (λ z. Sequence s 0 0 rows z now) q h
 
-    pub whole-left : n .end < length s → Parsed s rows (Bad (n .end)) now
-    whole-left lt =
-        outer .5 32 [] none none refl
-        ∙ run-at s (n .end) (state 32 [] none none (done (outer .0))) lt
-        ∙ ap (λ o. onward o (n .end) (λ r. run (drop (suc (n .end)) s) (suc (n .end)) r)) (closes-none 32 (outer .0) (getD s (n .end) 0) (sign (getD s (n .end) 0)) (sign-is (getD s (n .end) 0)) (outer .3))
+    pub whole-left : n .end < length s → Parsed s rows (Bad (n .end)) rows
+    whole-left lt = (
+      outer .5 32 [] none none refl
+          ∙ run-at s (n .end) (state 32 [] none none (done (outer .0))) lt
+          ∙ ap (λ o. onward o (n .end) (λ r. run (drop (suc (n .end)) s) (suc (n .end)) r)) (closes-none 32 (outer .0) (getD s (n .end) 0) (sign (getD s (n .end) 0)) (sign-is (getD s (n .end) 0)) (outer .3)),
+      refl,
+    )
 
     pub whole-done : length s ≤ n .end → Parsed s rows (Read n) now
     whole-done le =
-        (outer .0, outer .5 32 [] none none refl ∙ run-end s (n .end) (state 32 [] none none (done (outer .0))) le, outer .4)
+        (outer .0, outer .5 32 [] none none refl ∙ run-end s (n .end) (state 32 [] none none (done (outer .0))) le, omega (arith, outer .2), outer .4)

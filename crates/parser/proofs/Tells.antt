@@ -1,23 +1,23 @@
 -- What nodes and rows tell of what is read: one member more, and the end of a join.
-use mathlib.Core.Path.{_≡_, refl, sym, ap, ap₂, _∙_}
-use mathlib.Core.Bool.{Bool, true, false, _&&_, _||_, cond, or-assoc, or-false}
+use mathlib.Core.Path.{_≡_, refl, sym, ap, ap₂, _∙_, subst}
+use mathlib.Core.Bool.{Bool, true, false, _&&_, _||_, cond, or-assoc, or-false, true≢false}
 use mathlib.Core.List.{List}
 use mathlib.Core.Option.{none, some}
-use mathlib.Core.Logic.{⊎-elim}
+use mathlib.Core.Logic.{_⊎_, inl, inr, ⊎-elim}
 use Prim.Native.Nat.{ℕ, zero, suc, _+_, _-_, _<_, _≤_}
 use native.Mathlib.Omega.{arith}
 use lib.Dec.{eqb, leb}
 use borrow.Author.Tests.{eq-eqb, ne-eqb, eqb-true, eqb-false, le-leb, leb-false}
-use Rattle.sets.specs.Sets.{has, union, single}
-use Rattle.sets.proofs.Laws.{has-union, has-empty, has-single}
+use Rattle.sets.specs.Sets.{has, union, meet, single}
+use Rattle.sets.proofs.Laws.{has-union, has-meet, has-empty, has-single, none-empty}
 use Rattle.graph.specs.Graph.{ahead}
 use Rattle.expression.specs.Expr.{Expr, goal, join, Members, one, more, times, timesM, stands, standsM, before, beforeM}
-use Rattle.expression.proofs.Bools.{test, by-test}
+use Rattle.expression.proofs.Bools.{test, by-test, or-false as neither}
 use Rattle.grammar.specs.Reader.{Front, close, push}
 use Rattle.rows.specs.Rows.{Words, Linked}
 use Rattle.parser.specs.declared.Kind.{Kind}
 use Rattle.parser.specs.declared.Kind.the-variants.{Goal, Group as Groups, Sequence as Sequences}
-use Rattle.parser.specs.Reads.{maskOf, kindOf, Told}
+use Rattle.parser.specs.Reads.{maskOf, extraOf, kindOf, bit, Told}
 
 -- ---- Booleans
 bool-push : (r bx bm k s x y m : Bool) → (r || (bx || bm || (k && x && m) || (k && (s && (y || m))))) ≡ ((r || bx || (k && (s && y))) || (bm || (k && ((s || x) && m))))
@@ -49,12 +49,32 @@ stands-or : (a b : ℕ) → leb 1 (a + b) ≡ (leb 1 a || leb 1 b)
 stands-or zero b = let e : zero + b ≡ b = omega arith in ap (λ z. leb 1 z) e
 stands-or (suc a) b = le-leb 1 (suc a + b) (omega arith) ∙ ap (λ z. z || leb 1 b) (sym (le-leb 1 (suc a) (omega arith)))
 
+union-none : (a b : ℕ) → union a b ≡ 0 → (a ≡ 0) × (b ≡ 0)
+union-none a b z = (none-empty a (λ i. parts i .0), none-empty b (λ i. parts i .1))
+  where
+    parts : (i : ℕ) → (has a i ≡ false) × (has b i ≡ false)
+    parts i = neither (has a i) (has b i) (sym (has-union a b i) ∙ ap (λ w. has w i) z ∙ has-empty i)
+
+-- two sets that have nothing in common
+bit-union : (a b : ℕ) → meet a b ≡ 0 → (v : ℕ) → bit a v + bit b v ≤ bit (union a b) v
+bit-union a b z zero = omega arith
+bit-union a b z (suc i) =
+    subst (λ c. cond {A = ℕ} (has a i) 1 0 + cond (has b i) 1 0 ≤ cond c 1 0) (sym (has-union a b i))
+    (go (has a i) (has b i) (sym (has-meet a b i) ∙ ap (λ w. has w i) z ∙ has-empty i))
+  where
+    go : (p q : Bool) → (p && q) ≡ false → cond {A = ℕ} p 1 0 + cond q 1 0 ≤ cond (p || q) 1 0
+    go true true e = absurd (true≢false e)
+    go true false e = omega arith
+    go false true e = omega arith
+    go false false e = omega arith
+
 -- ---- a number
-pub told-goal : (v : ℕ) (rows : List ℕ) → 1 ≤ v → Words rows → Told (goal v) rows Goal (maskOf v) rows
+pub told-goal : (v : ℕ) (rows : List ℕ) → 1 ≤ v → Words rows → Told (goal v) rows Goal (maskOf v) (extraOf v) rows
 told-goal v rows lo w =
     record {
       kinds = refl;
       stand = λ i h. by-test (λ m. has m i ≡ stands (goal v) (suc i)) (leb v 32) (λ t. small i) (λ t. large i h (leb-false v 32 t));
+      once = λ z u. once (test (leb v 32)) z u;
       order = λ i j h k. sym (or-false (ahead rows (suc i) (suc j)));
       words = w;
     }
@@ -72,6 +92,14 @@ told-goal v rows lo w =
     small : (i : ℕ) → has (single (v - 1)) i ≡ stands (goal v) (suc i)
     small i = has-single (v - 1) i ∙ same i ∙ none-one (eqb (suc i) v)
 
+    once : (leb v 32 ≡ true) ⊎ (leb v 32 ≡ false) → extraOf v ≡ 0 → (u : ℕ) → times (goal v) u ≤ bit (maskOf v) u
+    once (inr t) z u = let one-zero : _≡_ {A = ℕ} 1 0 = sym (ap (λ b. cond {A = ℕ} b 0 1) t) ∙ z in absurd (omega arith)
+    once (inl t) z zero = let e : cond {A = ℕ} (eqb 0 v) 1 0 ≡ 0 = ap (λ b. cond {A = ℕ} b 1 0) (ne-eqb 0 v (λ q. omega arith)) in omega arith
+    once (inl t) z (suc i) =
+        let m : maskOf v ≡ single (v - 1) = ap (λ b. cond {A = ℕ} b (single (v - 1)) 0) t in
+        let e : cond {A = ℕ} (has (maskOf v) i) 1 0 ≡ cond (eqb (suc i) v) 1 0 = ap (λ b. cond {A = ℕ} b 1 0) (ap (λ w. has w i) m ∙ has-single (v - 1) i ∙ same i) in
+        omega arith
+
     large : (i : ℕ) → i < 32 → 32 < v → has 0 i ≡ stands (goal v) (suc i)
     large i h lt = has-empty i ∙ sym (ne-eqb (suc i) v (λ e. omega arith)) ∙ none-one (eqb (suc i) v)
 
@@ -85,15 +113,26 @@ kind-join true x ms = refl
 kind-join false x ms = refl
 
 -- x is what the members ms make of a front of which the set and the rows tell
-pub record Tells (k : Bool) (x : Expr) (ms : Members) (rows₀ : List ℕ) (set : ℕ) (rows : List ℕ) : Type 0 where
+pub record Tells (k : Bool) (x : Expr) (ms : Members) (rows₀ : List ℕ) (set extra : ℕ) (rows : List ℕ) : Type 0 where
   pub kinds : kindOf x ≡ joinKind k
   pub stand : (i : ℕ) → i < 32 → stands x (suc i) ≡ (has set i || standsM ms (suc i))
+  pub once : extra ≡ 0 → (v : ℕ) → times x v ≤ bit set v + timesM ms v
   pub order : (i j : ℕ) → i < 32 → j < 32
       → (ahead rows₀ (suc i) (suc j) || before x (suc i) (suc j)) ≡ (ahead rows (suc i) (suc j) || (beforeM k ms (suc i) (suc j) || (k && (has set i && standsM ms (suc j)))))
 
-abbrev pub FrontTold : Bool → Front → List ℕ → ℕ → List ℕ → Type 0
-FrontTold k none rows₀ set rows = (set ≡ 0) × (rows ≡ rows₀)
-FrontTold k (some h) rows₀ set rows = (ms : Members) → Tells k (h ms) ms rows₀ set rows
+abbrev pub FrontTold : Bool → Front → List ℕ → ℕ → ℕ → List ℕ → Type 0
+FrontTold k none rows₀ set extra rows = (set ≡ 0) × (rows ≡ rows₀)
+FrontTold k (some h) rows₀ set extra rows = (ms : Members) → Tells k (h ms) ms rows₀ set extra rows
+
+-- a word that is 0 only if both parts' are and the parts have no number in common
+abbrev pub clash : ℕ → ℕ → ℕ → ℕ → ℕ
+clash extra new set part = union (union extra new) (meet set part)
+
+clash-none : (extra new set part : ℕ) → clash extra new set part ≡ 0 → (extra ≡ 0) × (new ≡ 0) × (meet set part ≡ 0)
+clash-none extra new set part z =
+    let p = union-none (union extra new) (meet set part) z in
+    let q = union-none extra new (p .0) in
+    (q .0, q .1, p .1)
 
 -- in a sequence the members before are before the new one
 pub record Links (k : Bool) (set part : ℕ) (rows now : List ℕ) : Type 0 where
@@ -106,21 +145,31 @@ links-sequence set part rows now h = record { words = h .words; order = λ i j l
 pub links-group : (set part : ℕ) (rows : List ℕ) → Words rows → Links false set part rows rows
 links-group set part rows w = record { words = w; order = λ i j l l′. sym (or-false (ahead rows (suc i) (suc j))) }
 
-module _ (k : Bool) (rows₀ : List ℕ) (set : ℕ) (rows : List ℕ) (x : Expr) (kind : Kind) (part : ℕ) (mid now : List ℕ) where
-  set-is : Told x rows kind part mid → (i : ℕ) → i < 32 → has (union set part) i ≡ (has set i || stands x (suc i))
+-- a first member alone leaves no order
+pub links-none : (k : Bool) (part : ℕ) (rows : List ℕ) → Words rows → Links k 0 part rows rows
+links-none k part rows w =
+    record { words = w; order = λ i j l l′. sym (ap (λ b. ahead rows (suc i) (suc j) || (k && (b && has part j))) (has-empty i) ∙ nothing k (ahead rows (suc i) (suc j))) }
+  where
+    nothing : (k a : Bool) → (a || (k && false)) ≡ a
+    nothing true a = or-false a
+    nothing false a = or-false a
+
+module _ (k : Bool) (rows₀ : List ℕ) (set extra : ℕ) (rows : List ℕ) (x : Expr) (kind : Kind) (part new : ℕ) (mid now : List ℕ) where
+  set-is : Told x rows kind part new mid → (i : ℕ) → i < 32 → has (union set part) i ≡ (has set i || stands x (suc i))
   set-is t i h = has-union set part i ∙ ap (λ z. has set i || z) (t .stand i h)
 
-  now-is : Told x rows kind part mid → Links k set part mid now → (i j : ℕ) → i < 32 → j < 32
+  now-is : Told x rows kind part new mid → Links k set part mid now → (i j : ℕ) → i < 32 → j < 32
       → ahead now (suc i) (suc j) ≡ (ahead rows (suc i) (suc j) || before x (suc i) (suc j) || (k && (has set i && stands x (suc j))))
   now-is t l i j h h′ = l .order i j h h′ ∙ ap₂ (λ a b. a || (k && (has set i && b))) (t .order i j h h′) (t .stand j h′)
 
   -- a first member alone: nothing is put before it
-  pub told-alone : FrontTold k none rows₀ set rows → Told x rows kind part mid → Links k set part mid now → Told x rows₀ kind part now
+  pub told-alone : FrontTold k none rows₀ set extra rows → Told x rows kind part new mid → Links k set part mid now → Told x rows₀ kind part new now
   told-alone h t l =
       let blank : (i : ℕ) → has set i ≡ false = λ i. ap (λ z. has z i) (h .0) ∙ has-empty i in
       record {
         kinds = t .kinds;
         stand = t .stand;
+        once = t .once;
         order = λ i j lt lt′.
             l .order i j lt lt′ ∙ ap (λ b. ahead mid (suc i) (suc j) || (k && (b && has part j))) (blank i) ∙ nothing k (ahead mid (suc i) (suc j))
             ∙ t .order i j lt lt′ ∙ ap (λ z. ahead z (suc i) (suc j) || before x (suc i) (suc j)) (h .1);
@@ -131,14 +180,17 @@ module _ (k : Bool) (rows₀ : List ℕ) (set : ℕ) (rows : List ℕ) (x : Expr
       nothing true a = or-false a
       nothing false a = or-false a
 
-  pub told-push : (f : Front) → FrontTold k f rows₀ set rows → Told x rows kind part mid → Links k set part mid now
-      → FrontTold k (some (push k f x)) rows₀ (union set part) now
+  pub told-push : (f : Front) → FrontTold k f rows₀ set extra rows → Told x rows kind part new mid → Links k set part mid now
+      → FrontTold k (some (push k f x)) rows₀ (union set part) (clash extra new set part) now
   told-push none h t l = λ ms.
       let empty : (i : ℕ) → has set i ≡ false = λ i. ap (λ z. has z i) (h .0) ∙ has-empty i in
       let set-now : (i : ℕ) → i < 32 → has (union set part) i ≡ stands x (suc i) = λ i lt. set-is t i lt ∙ ap (λ z. z || stands x (suc i)) (empty i) in
       record {
         kinds = kind-join k x ms;
         stand = λ i lt. stands-or (times x (suc i)) (timesM ms (suc i)) ∙ ap (λ z. z || standsM ms (suc i)) (sym (set-now i lt));
+        once = λ z v.
+            let p = clash-none extra new set part z in
+            omega (arith, t .once (p .1) v, bit-union set part (p .2) v);
         order = λ i j lt lt′.
             bool-first (ahead rows₀ (suc i) (suc j)) (before x (suc i) (suc j)) (beforeM k ms (suc i) (suc j)) k (stands x (suc i)) (stands x (suc j)) (standsM ms (suc j))
             ∙ ap₂ (λ a b. a || (beforeM k ms (suc i) (suc j) || (k && (b && standsM ms (suc j)))))
@@ -151,6 +203,9 @@ module _ (k : Bool) (rows₀ : List ℕ) (set : ℕ) (rows : List ℕ) (x : Expr
         kinds = r .kinds;
         stand = λ i lt. r .stand i lt ∙ ap (λ z. has set i || z) (stands-or (times x (suc i)) (timesM ms (suc i))) ∙ sym (or-assoc (has set i) (stands x (suc i)) (standsM ms (suc i)))
             ∙ ap (λ z. z || standsM ms (suc i)) (sym (set-is t i lt));
+        once = λ z v.
+            let p = clash-none extra new set part z in
+            omega (arith, r .once (p .0) v, t .once (p .1) v, bit-union set part (p .2) v);
         order = λ i j lt lt′.
             r .order i j lt lt′
             ∙ ap (λ z. ahead rows (suc i) (suc j) || (beforeM k (more x ms) (suc i) (suc j) || (k && (has set i && z)))) (stands-or (times x (suc j)) (timesM ms (suc j)))
@@ -158,13 +213,16 @@ module _ (k : Bool) (rows₀ : List ℕ) (set : ℕ) (rows : List ℕ) (x : Expr
             ∙ ap₂ (λ a b. a || (beforeM k ms (suc i) (suc j) || (k && (b && standsM ms (suc j))))) (sym (now-is t l i j lt lt′)) (sym (set-is t i lt));
       }
 
-  pub told-close : (f : Members → Expr) → FrontTold k (some f) rows₀ set rows → Told x rows kind part mid → Links k set part mid now
-      → Told (close (some f) x) rows₀ (joinKind k) (union set part) now
+  pub told-close : (f : Members → Expr) → FrontTold k (some f) rows₀ set extra rows → Told x rows kind part new mid → Links k set part mid now
+      → Told (close (some f) x) rows₀ (joinKind k) (union set part) (clash extra new set part) now
   told-close f h t l =
       let r = h (one x) in
       record {
         kinds = sym (r .kinds);
         stand = λ i lt. set-is t i lt ∙ sym (r .stand i lt);
+        once = λ z v.
+            let p = clash-none extra new set part z in
+            omega (arith, r .once (p .0) v, t .once (p .1) v, bit-union set part (p .2) v);
         words = l .words;
         order = λ i j lt lt′. now-is t l i j lt lt′ ∙ or-assoc (ahead rows (suc i) (suc j)) (before x (suc i) (suc j)) (k && (has set i && stands x (suc j))) ∙ sym (r .order i j lt lt′);
       }

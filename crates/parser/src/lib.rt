@@ -2,9 +2,9 @@
 // Members are read by loops; the rows of the order are lent down the cycle, and each reader answers with one node.
 ghost use mathlib.Core.Path.{_≡_};
 ghost use Prim.Native.Nat.{_≤_};
-ghost use lib.ListN.{getD};
+ghost use lib.ListN.{length, getD};
 ghost use Rattle.rows.specs.Rows.{Words};
-ghost use Rattle.parser.specs.Reads.{maskOf, found, Numbered, Sequence, Group, Primary, Parsed};
+ghost use Rattle.parser.specs.Reads.{maskOf, extraOf, found, Opened, Closed, Numbered, Bare, Sequence, Group, Primary, Parsed};
 
 // At most so many parentheses are open at a time.
 const DEEPEST: usize = 32;
@@ -15,10 +15,12 @@ pub enum Kind {
     Sequence,
 }
 
-// What is read: its kind, the goals up to 32 that stand in it, and the place behind it.
+// What is read: its kind, the goals up to 32 that stand in it, a word that is 0 only if they stand in it once and no other number does,
+// and the place behind it.
 pub struct Node {
     pub kind: Kind,
     pub set: u32,
+    pub extra: u32,
     pub end: usize,
 }
 
@@ -26,6 +28,12 @@ pub struct Node {
 pub enum Part {
     Read(Node),
     Bad(usize),
+}
+
+// A number in parentheses of its own, or anything else.
+enum Wrapped {
+    Number(Node),
+    Other,
 }
 
 // The byte at a place, or 0 past the end.
@@ -43,13 +51,26 @@ fn mask_of(v: usize) -> u32
     if v <= 32 { sets::single32(v - 1) } else { 0 }
 }
 
+// Not 0 if the number is above 32.
+fn extra_of(v: usize) -> u32
+    ensures { λ r. ⌜ r ≡ extraOf v ⌝ }
+{
+    if v <= 32 { 0 } else { 1 }
+}
+
 fn goal(v: usize, end: usize) -> Part
     requires { ⌜ 1 ≤ v ⌝ }
     ensures { λ r. ⌜ r ≡ found v end ⌝ }
 {
     let kind = Kind::Goal;
     let set = mask_of(v);
-    Part::Read(Node { kind, set, end })
+    let extra = extra_of(v);
+    Part::Read(Node {
+        kind,
+        set,
+        extra,
+        end,
+    })
 }
 
 // A digit 1 to 9, then at most one further digit.
@@ -74,6 +95,74 @@ fn number(text: &[u8], at: usize) -> Part
     goal(10 * (b - 48) + (d - 48), at + 2)
 }
 
+// How many parentheses are opened one after another, up to the limit.
+fn opened(text: &[u8], at: usize, depth: usize) -> usize
+    requires { ⌜ (at ≤ length (now text)) × (depth ≤ 32) ⌝ }
+    ensures { λ r. ⌜ Opened (now (text .entry)) at depth r ⌝ }
+{
+    let mut k: usize = 0;
+    while depth + k < DEEPEST {
+        if peek(text, at + k) != 40 {
+            return k;
+        }
+        k = k + 1;
+    }
+    k
+}
+
+// As many bytes from a place on all close a parenthesis.
+fn closed(text: &[u8], at: usize, count: usize) -> bool
+    requires { ⌜ (at ≤ length (now text)) × (count ≤ 32) ⌝ }
+    ensures { λ r. ⌜ Closed (now (text .entry)) at count r ⌝ }
+{
+    for k in 0..count {
+        if peek(text, at + k) != 41 {
+            return false;
+        }
+    }
+    true
+}
+
+// A number in parentheses of its own is read without the cycle. It is looked for where two or more are opened one after another, at the first.
+fn spare(text: &[u8], at: usize, depth: usize) -> Wrapped
+    requires { ⌜ (at ≤ length (now text)) × (depth ≤ 32) ⌝ }
+    ensures { λ r. ⌜ Bare (now (text .entry)) at depth r ⌝ }
+{
+    if peek(text, at + 1) != 40 {
+        return Wrapped::Other;
+    }
+    if 0 < at {
+        if peek(text, at - 1) == 40 {
+            return Wrapped::Other;
+        }
+    }
+    let open = opened(text, at, depth);
+    let inner = at + open;
+    if peek(text, inner) == 40 {
+        return Wrapped::Other;
+    }
+    let part = number(text, inner);
+    match part {
+        Part::Bad(_) => Wrapped::Other,
+        Part::Read(node) => {
+            let end = node.end;
+            if closed(text, end, open) {
+                let kind = node.kind;
+                let set = node.set;
+                let extra = node.extra;
+                Wrapped::Number(Node {
+                    kind,
+                    set,
+                    extra,
+                    end: end + open,
+                })
+            } else {
+                Wrapped::Other
+            }
+        }
+    }
+}
+
 // Groups joined by `,`: each is before all that come after it.
 fn sequence(text: &[u8], start: usize, depth: usize, rows: &mut [u32; 32]) -> Part
     requires { ⌜ Words (now rows) ⌝ }
@@ -81,6 +170,7 @@ fn sequence(text: &[u8], start: usize, depth: usize, rows: &mut [u32; 32]) -> Pa
 {
     let mut at = start;
     let mut set: u32 = 0;
+    let mut extra: u32 = 0;
     loop {
         let part = group(text, at, depth, rows);
         match part {
@@ -91,6 +181,7 @@ fn sequence(text: &[u8], start: usize, depth: usize, rows: &mut [u32; 32]) -> Pa
                 let later = node.set;
                 let end = node.end;
                 rows::link(rows, set, later);
+                extra = extra | node.extra | (set & later);
                 set = set | later;
                 if peek(text, end) == 44 {
                     at = end + 1;
@@ -98,7 +189,12 @@ fn sequence(text: &[u8], start: usize, depth: usize, rows: &mut [u32; 32]) -> Pa
                     return part;
                 } else {
                     let kind = Kind::Sequence;
-                    return Part::Read(Node { kind, set, end });
+                    return Part::Read(Node {
+                        kind,
+                        set,
+                        extra,
+                        end,
+                    });
                 }
             }
         }
@@ -112,6 +208,7 @@ fn group(text: &[u8], start: usize, depth: usize, rows: &mut [u32; 32]) -> Part
 {
     let mut at = start;
     let mut set: u32 = 0;
+    let mut extra: u32 = 0;
     loop {
         let part = primary(text, at, depth, rows);
         match part {
@@ -121,6 +218,7 @@ fn group(text: &[u8], start: usize, depth: usize, rows: &mut [u32; 32]) -> Part
             Part::Read(node) => {
                 let other = node.set;
                 let end = node.end;
+                extra = extra | node.extra | (set & other);
                 set = set | other;
                 if peek(text, end) == 38 {
                     at = end + 1;
@@ -128,7 +226,12 @@ fn group(text: &[u8], start: usize, depth: usize, rows: &mut [u32; 32]) -> Part
                     return part;
                 } else {
                     let kind = Kind::Group;
-                    return Part::Read(Node { kind, set, end });
+                    return Part::Read(Node {
+                        kind,
+                        set,
+                        extra,
+                        end,
+                    });
                 }
             }
         }
@@ -144,6 +247,13 @@ fn primary(text: &[u8], at: usize, depth: usize, rows: &mut [u32; 32]) -> Part
         if DEEPEST <= depth {
             return Part::Bad(at);
         }
+        let bare = spare(text, at, depth);
+        match bare {
+            Wrapped::Number(node) => {
+                return Part::Read(node);
+            }
+            Wrapped::Other => {}
+        }
         let part = sequence(text, at + 1, depth + 1, rows);
         match part {
             Part::Bad(p) => Part::Bad(p),
@@ -153,9 +263,11 @@ fn primary(text: &[u8], at: usize, depth: usize, rows: &mut [u32; 32]) -> Part
                 if peek(text, end) == 41 {
                     let kind = node.kind;
                     let set = node.set;
+                    let extra = node.extra;
                     Part::Read(Node {
                         kind,
                         set,
+                        extra,
                         end: after,
                     })
                 } else {
@@ -168,17 +280,22 @@ fn primary(text: &[u8], at: usize, depth: usize, rows: &mut [u32; 32]) -> Part
     }
 }
 
-// The whole text.
+// The whole text. A refusal leaves the rows as they were.
 pub fn parse(text: &[u8], rows: &mut [u32; 32]) -> Part
     requires { ⌜ Words (now rows) ⌝ }
     ensures { λ r. ⌜ Parsed (now (text .entry)) (now (rows .entry)) r (now (rows .exit)) ⌝ }
 {
+    let kept = *rows;
     let part = sequence(text, 0, 0, rows);
     match part {
-        Part::Bad(p) => Part::Bad(p),
+        Part::Bad(p) => {
+            *rows = kept;
+            Part::Bad(p)
+        }
         Part::Read(node) => {
             let end = node.end;
             if end < text.len() {
+                *rows = kept;
                 Part::Bad(end)
             } else {
                 part

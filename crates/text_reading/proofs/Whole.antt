@@ -7,15 +7,16 @@ use mathlib.Core.Logic.{⊎-elim, dite}
 use Prim.Native.Nat.{ℕ, zero, suc, _^_, _<_, _≤_}
 use native.Mathlib.Omega.{arith}
 use native.Mathlib.Decide.{decLt}
-use lib.Dec.{eqb}
+use lib.Dec.{eqb, ltb}
 use lib.ListN.{length, getD, replicate, getD-replicate}
-use borrow.Author.Tests.{ne-eqb, eqb-false, leb-true, le-leb, lt-leb, lt-ltb, ltb-true}
+use borrow.Author.Tests.{ne-eqb, eqb-false, leb-true, le-leb, lt-leb, lt-ltb, le-ltb, ltb-true}
 use Rattle.logic.proofs.Bools.{is-false}
 use Rattle.sets.specs.Sets.{has, subset, below}
 use Rattle.sets.proofs.Laws.{has-empty, has-below, member-below, none-empty, subset-has, has-subset}
 use Rattle.sets.proofs.Builder.{members-lt}
 use Rattle.graph.specs.Graph.{hasGoal, ahead, goalsOf, rowsOf}
 use Rattle.graph.proofs.Rows.{goals-ext, rows-ext}
+use Rattle.expression.specs.Search.{orElse}
 use Rattle.expression.specs.Expr.{Expr, times, stands, before, UsesOnce}
 use Rattle.expression.proofs.Bools.{test, or-false}
 use Rattle.expression.proofs.Spec.{stands-in, before-in}
@@ -29,12 +30,12 @@ use Rattle.rows.specs.Rows.{Words}
 use Rattle.parser.specs.declared.Node.{Node}
 use Rattle.parser.specs.declared.Part.{Part}
 use Rattle.parser.specs.declared.Part.the-variants.{Read as Done, Bad}
-use Rattle.parser.specs.Reads.{Parsed}
+use Rattle.parser.specs.Reads.{bit, Parsed}
 use Rattle.text_reading.specs.declared.Outcome.the-variants.{Read}
 use Rattle.text_reading.specs.declared.TextAnswer.{TextAnswer}
 use Rattle.text_reading.specs.declared.Spot.{Spot}
 use Rattle.text_reading.specs.declared.Spot.the-variants.{At, Nowhere}
-use Rattle.text_reading.specs.Answers.{spot, faultIn, textAnswer}
+use Rattle.text_reading.specs.Answers.{spot, faultIn, Counted, textAnswer}
 
 spot-none : (o : Option ℕ) → Nowhere ≡ spot o → o ≡ none
 spot-none none h = refl
@@ -75,6 +76,33 @@ module _ (n : ℕ) (x : Expr) (set : ℕ) (few : n ≤ 32) (told : (i : ℕ) →
           let l = ltb-true i n (sym (has-below n i) ∙ e) in
           told i (omega arith) ∙ missing-none n x t i l)
 
+-- ---- each goal stands once: nothing is at fault
+module _ (n : ℕ) (few : n ≤ 32) (s : List ℕ) (set extra : ℕ) (h : Counted s set extra) (z : extra ≡ 0) (e : set ≡ below n) where
+  member : (i : ℕ) → has set i ≡ ltb i n
+  member i = ap (λ w. has w i) e ∙ has-below n i
+
+  uses : UsesOnce n (h .0)
+  uses zero = let l = h .3 z zero in omega arith
+  uses (suc i) =
+      let most = h .3 z (suc i) in
+      dite (decLt i n)
+      (λ l.
+      let yes : has set i ≡ true = member i ∙ lt-ltb i n l in
+      let one : bit set (suc i) ≡ 1 = ap (λ b. cond {A = ℕ} b 1 0) yes in
+      let least = leb-true 1 (times (h .0) (suc i)) (sym (h .2 i (omega arith)) ∙ yes) in
+      rw (le-leb 1 (suc i) (omega arith), le-leb (suc i) n (omega arith)) (omega arith))
+      (λ l.
+      let nought : bit set (suc i) ≡ 0 = ap (λ b. cond {A = ℕ} b 1 0) (member i ∙ le-ltb i n (omega arith)) in
+      rw (le-leb 1 (suc i) (omega arith), lt-leb (suc i) n (omega arith)) (omega arith))
+
+  first-none : (a b : Option ℕ) → orElse a b ≡ none → a ≡ none
+  first-none none b q = refl
+  first-none (some p) b q = cc
+
+  pub fault-none : Nowhere ≡ faultIn n s
+  fault-none =
+      sym (ap spot (first-none (fault n [] (numbers s)) (cond (missing n (h .0)) (some (length s)) none) (misuse-none 32 n s (h .0) (read-accepts 32 s (h .0) .0 (h .1)) .1 uses)))
+
 -- ---- the graph and the set of an expression that uses each goal once
 module _ (n : ℕ) (x : Expr) (set : ℕ) (now : List ℕ) (few : n ≤ 32) (uses : UsesOnce n x) (small : set < 2 ^ 32)
     (stand : (i : ℕ) → i < 32 → has set i ≡ stands x (suc i)) (order : (i j : ℕ) → i < 32 → j < 32 → ahead now (suc i) (suc j) ≡ before x (suc i) (suc j)) (words : Words now) where
@@ -89,15 +117,15 @@ module _ (n : ℕ) (x : Expr) (set : ℕ) (now : List ℕ) (few : n ≤ 32) (use
       at (suc i) a b = stand i (omega arith)
 
   -- a bit of a row is an order of two goals
-  bit : (i j : ℕ) → i < 32 → has (getD now i 0) j ≡ true → (i < n) × (j < n)
-  bit i j l h =
+  edge : (i j : ℕ) → i < 32 → has (getD now i 0) j ≡ true → (i < n) × (j < n)
+  edge i j l h =
       let b = before-in x (suc i) (suc j) (sym (order i j l (member-below 32 (getD now i 0) j (words .small i) h)) ∙ h) in
       (omega (arith, uses-in n x uses (suc i) (b .0) .1), omega (arith, uses-in n x uses (suc j) (b .1) .1))
 
   rows-are : now ≡ rowsOf n (before x)
   rows-are =
-      rows-ext n (before x) now few (words .size) (λ i l. members-lt n (getD now i 0) (λ j e. bit i j (omega arith) e .1)) (λ i j. at i j)
-      (λ i l p. none-empty (getD now i 0) (λ j. is-false (has (getD now i 0) j) (λ e. absurd (omega (arith, p, bit i j l e .0)))))
+      rows-ext n (before x) now few (words .size) (λ i l. members-lt n (getD now i 0) (λ j e. edge i j (omega arith) e .1)) (λ i j. at i j)
+      (λ i l p. none-empty (getD now i 0) (λ j. is-false (has (getD now i 0) j) (λ e. absurd (omega (arith, p, edge i j l e .0)))))
     where
       at : (i j : ℕ) → 1 ≤ i → i ≤ n → 1 ≤ j → j ≤ n → ahead now i j ≡ before x i j
       at zero j a b c d = absurd (omega arith)
@@ -120,7 +148,7 @@ module _ (n : ℕ) (s : List ℕ) where
 
     module _ (r : Part) (now : List ℕ) (h : Parsed s (replicate 32 0) r now) where
       pub text-bad : (p : ℕ) → r ≡ Bad p → refusal 16 p ≡ readText n s
-      text-bad p e = sym (sized ∙ ap (λ z. decided n s z) (subst (λ z. Parsed s (replicate 32 0) z now) e h))
+      text-bad p e = sym (sized ∙ ap (λ z. decided n s z) ((subst (λ z. Parsed s (replicate 32 0) z now) e h) .0))
 
       module _ (nd : Node) (q : r ≡ Done nd) where
         parsed : Parsed s (replicate 32 0) (Done nd) now
@@ -128,6 +156,9 @@ module _ (n : ℕ) (s : List ℕ) where
 
         reads : readText n s ≡ numbered (parsed .0) (misuse n s (parsed .0))
         reads = sized ∙ ap (λ z. decided n s z) (parsed .1)
+
+        pub counted : Counted s (nd .set) (nd .extra)
+        counted = (parsed .0, parsed .1, parsed .3 .stand, parsed .3 .once)
 
         pub text-fault : (v : Spot) (p : ℕ) → v ≡ faultIn n s → v ≡ At p → refusal 17 p ≡ readText n s
         text-fault v p f g =
@@ -140,20 +171,20 @@ module _ (n : ℕ) (s : List ℕ) where
 
           pub text-lacks : subset (below n) (nd .set) ≡ false → refusal 17 (length s) ≡ readText n s
           text-lacks l =
-              sym (reads ∙ ap (λ o. numbered (parsed .0) o) (misused true (some-lack n (parsed .0) (nd .set) few (parsed .2 .stand) l)))
+              sym (reads ∙ ap (λ o. numbered (parsed .0) o) (misused true (some-lack n (parsed .0) (nd .set) few (parsed .3 .stand) l)))
 
           pub text-done : subset (below n) (nd .set) ≡ true → nd .set < 2 ^ 32
               → _≡_ {A = TextAnswer} (record { outcome = Read; graph = record { n = n; rows = now }; met = nd .set }) (textAnswer n (readText n s))
           text-done l small =
-              let m = misused false (all-there n (parsed .0) (nd .set) few (parsed .2 .stand) l) in
+              let m = misused false (all-there n (parsed .0) (nd .set) few (parsed .3 .stand) l) in
               let u = misuse-none 32 n s (parsed .0) (read-accepts 32 s (parsed .0) .0 (parsed .1)) .0 m in
-              let w = parsed .2 .words in
+              let w = parsed .3 .words in
               ap₂ (λ a b. record { outcome = Read; graph = record { n = n; rows = a }; met = b })
-              (rows-are n (parsed .0) (nd .set) now few u small (parsed .2 .stand) order w) (met-is n (parsed .0) (nd .set) now few u small (parsed .2 .stand) order w)
+              (rows-are n (parsed .0) (nd .set) now few u small (parsed .3 .stand) order w) (met-is n (parsed .0) (nd .set) now few u small (parsed .3 .stand) order w)
               ∙ sym (ap (λ z. textAnswer n z) (reads ∙ ap (λ o. numbered (parsed .0) o) m))
             where
               blank : (i j : ℕ) → i < 32 → ahead (replicate 32 0) (suc i) (suc j) ≡ false
               blank i j l = ap (λ z. has z j) (getD-replicate 32 i 0 0 l) ∙ has-empty j
 
               order : (i j : ℕ) → i < 32 → j < 32 → ahead now (suc i) (suc j) ≡ before (parsed .0) (suc i) (suc j)
-              order i j a b = parsed .2 .order i j a b ∙ ap (λ z. z || before (parsed .0) (suc i) (suc j)) (blank i j a)
+              order i j a b = parsed .3 .order i j a b ∙ ap (λ z. z || before (parsed .0) (suc i) (suc j)) (blank i j a)

@@ -1,16 +1,19 @@
 -- What reading a text answers, as values: the paper's number and place with a refusal, every other field zero.
+use mathlib.Core.Path.{_≡_}
 use mathlib.Core.Bool.{Bool, _&&_}
 use mathlib.Core.List.{List, []}
 use mathlib.Core.Option.{Option, none, some}
-use Prim.Native.Nat.{ℕ, _+_, _-_}
+use Prim.Native.Nat.{ℕ, suc, _+_, _-_, _<_, _≤_}
 use lib.Dec.{leb}
 use lib.ListN.{getD}
+use Rattle.sets.specs.Sets.{has}
 use Rattle.graph.specs.Graph.{goalsOf, graphOf, edgeless}
-use Rattle.expression.specs.Expr.{Expr, stands, before}
-use Rattle.grammar.specs.Reader.{sign}
+use Rattle.expression.specs.Expr.{Expr, times, stands, before}
+use Rattle.grammar.specs.Reader.{sign, accepted, read}
 use Rattle.grammar.specs.Numbers.{Found, found, grown, numbers}
 use Rattle.grammar.specs.Numbers
 use Rattle.grammar.specs.Reading.{Ruling, refusal, answer}
+use Rattle.parser.specs.Reads.{bit}
 use Rattle.text_reading.specs.declared.Outcome.the-variants.{Read, Refused}
 use Rattle.text_reading.specs.declared.TextAnswer.{TextAnswer}
 use Rattle.text_reading.specs.declared.Spot.{Spot}
@@ -34,6 +37,11 @@ spot (some p) = At p
 
 abbrev pub faultIn : ℕ → List ℕ → Spot
 faultIn n s = spot (Numbers.fault n [] (numbers s))
+
+-- the set tells the numbers up to 32 of a text's expression, and a word of 0 that they stand in it once and no other does
+abbrev pub Counted : List ℕ → ℕ → ℕ → Type 0
+Counted s set extra =
+    (x : Expr) × (read 32 s ≡ accepted x) × ((i : ℕ) → i < 32 → has set i ≡ stands x (suc i)) × (extra ≡ 0 → (v : ℕ) → times x v ≤ bit set v)
 
 -- "A refusal returns its number and a place, every other field zero"
 abbrev pub turned : ℕ → ℕ → TextAnswer

@@ -7,7 +7,7 @@ ghost use mathlib.Core.Bool.{true};
 ghost use Prim.Native.Nat.{_<_, _≤_, _^_};
 ghost use lib.ListN.{getD};
 ghost use Rattle.grammar.specs.Reading.{readText};
-ghost use Rattle.text_reading.specs.Answers.{isDigit, valueAt, faultIn, turned, textAnswer};
+ghost use Rattle.text_reading.specs.Answers.{isDigit, valueAt, faultIn, Counted, turned, textAnswer};
 
 // The longest text that is read.
 const LONGEST: usize = 512;
@@ -76,6 +76,19 @@ fn fault(text: &[u8], n: usize) -> Spot
     Spot::Nowhere
 }
 
+// The same, from the set and the word that the node of a whole text has: it is scanned only if they do not show that each goal stands in it once.
+fn fault_of(text: &[u8], n: usize, set: u32, extra: u32) -> Spot
+    requires { ⌜ (n ≤ 32) × Counted (now text) set extra ⌝ }
+    ensures { λ r. ⌜ r ≡ faultIn n (now (text .entry)) ⌝ }
+{
+    if extra == 0 {
+        if set == sets::below32(n) {
+            return Spot::Nowhere;
+        }
+    }
+    fault(text, n)
+}
+
 fn refused(number: u8, place: usize) -> TextAnswer
     ensures { λ r. ⌜ r ≡ turned number place ⌝ }
 {
@@ -105,7 +118,7 @@ pub fn read_text(text: &[u8], n: usize) -> TextAnswer
         Part::Bad(p) => refused(16, p),
         Part::Read(node) => {
             let met = node.set;
-            let spot = fault(text, n);
+            let spot = fault_of(text, n, met, node.extra);
             match spot {
                 Spot::At(p) => refused(17, p),
                 Spot::Nowhere => {

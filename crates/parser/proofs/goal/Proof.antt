@@ -3,15 +3,20 @@ use Rattle.parser.proofs.goal.Statement.{statement}
 use Rattle.parser.proofs.goal.Tie as tie
 use Rattle.parser.proofs.goal.Reads as reads
 use Rattle.parser.proofs.goal.Lts as lts
+use Rattle.parser.proofs.extra_of.Reads as extra-of-reads
 use Rattle.parser.proofs.mask_of.Reads as mask-of-reads
 
 -- src/lib.rt:51:9
 mask-of-requires : tie.Need-mask-of-requires
 mask-of-requires c κs = search needs
 
+-- src/lib.rt
+extra-of-requires : tie.Need-extra-of-requires
+extra-of-requires c κs = search needs
+
 -- src/lib.rt:46:1
 returns : tie.Need-returns
-returns c = rw (c .mask-of .ensures)
+returns c = rw (c .before .mask-of .ensures, c .extra-of .ensures)
 
 pub goal-spec : {M : Type 1} → statement M
-goal-spec = tie.close (tie.spec mask-of-requires returns)
+goal-spec = tie.close (tie.spec mask-of-requires extra-of-requires returns)

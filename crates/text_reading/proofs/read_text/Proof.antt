@@ -3,14 +3,14 @@ use native.Mathlib.Omega.{arith}
 use Rattle.sets.specs.Sets.{subset}
 use Rattle.rows.proofs.Linking.{words-zero}
 use Rattle.text_reading.specs.Answers.{textAnswer}
-use Rattle.text_reading.proofs.Whole.{text-short, text-long, text-bad, text-fault, text-lacks, text-done}
+use Rattle.text_reading.proofs.Whole.{text-short, text-long, text-bad, counted, text-fault, text-lacks, text-done}
 use borrow.Author.Needs.{needs}
 use Rattle.text_reading.proofs.read_text.Statement.{statement}
 use Rattle.text_reading.proofs.read_text.Tie as tie
 use Rattle.text_reading.proofs.read_text.Reads as reads
 use Rattle.text_reading.proofs.read_text.Lts as lts
 use Rattle.parser.proofs.parse.Reads as parse-reads
-use Rattle.text_reading.proofs.fault.Reads as fault-reads
+use Rattle.text_reading.proofs.fault_of.Reads as fault-of-reads
 use Rattle.text_reading.proofs.refused.Reads as refused-reads
 use Rattle.sets.proofs.below32.Reads as below32-reads
 use Rattle.sets.proofs.subset32.Reads as subset32-reads
@@ -48,8 +48,8 @@ enum-known-part-2 : tie.Need-enum-known-part-2
 enum-known-part-2 c = search needs
 
 -- src/lib.rt:104:17
-fault-requires : tie.Need-fault-requires
-fault-requires c κs = search needs
+fault-of-requires : tie.Need-fault-of-requires
+fault-of-requires c κs = (c .before .before .before .before .before .before .before .before .pre, counted (c .before .before .before .before .before .before .before .before .args .n) (c .before .before .before .before .before .before .before .before .args .text .now) (omega (arith, c .before .before .before .before .before .before .if1 .left)) (c .before .before .before .before .before .if2 .left) _ _ (c .before .before .before .parse .ensures) _ (c .before .part2 .given .1))
 
 -- src/lib.rt:106:26
 enum-known-spot : tie.Need-enum-known-spot
@@ -81,15 +81,15 @@ returns-3 c = c .refused3 .ensures ∙ ap (λ z. textAnswer (c .before .before .
 
 -- src/lib.rt:87:1
 returns-4 : tie.Need-returns-4
-returns-4 c = c .refused4 .ensures ∙ ap (λ z. textAnswer (c .before .before .before .before .before .before .before .before .before .before .before .before .before .args .n) z) (text-fault (c .before .before .before .before .before .before .before .before .before .before .before .before .before .args .n) (c .before .before .before .before .before .before .before .before .before .before .before .before .before .args .text .now) (omega (arith, c .before .before .before .before .before .before .before .before .before .before .before .if1 .left)) (c .before .before .before .before .before .before .before .before .before .before .if2 .left) _ _ (c .before .before .before .before .before .before .before .before .parse .ensures) _ (c .before .before .before .before .before .before .part2 .given .1) _ _ (c .before .before .before .before .fault .ensures) (c .before .before .spot .given .1))
+returns-4 c = c .refused4 .ensures ∙ ap (λ z. textAnswer (c .before .before .before .before .before .before .before .before .before .before .before .before .before .args .n) z) (text-fault (c .before .before .before .before .before .before .before .before .before .before .before .before .before .args .n) (c .before .before .before .before .before .before .before .before .before .before .before .before .before .args .text .now) (omega (arith, c .before .before .before .before .before .before .before .before .before .before .before .if1 .left)) (c .before .before .before .before .before .before .before .before .before .before .if2 .left) _ _ (c .before .before .before .before .before .before .before .before .parse .ensures) _ (c .before .before .before .before .before .before .part2 .given .1) _ _ (c .before .before .before .before .fault-of .ensures) (c .before .before .spot .given .1))
 
 -- src/lib.rt:87:1
 returns-5 : tie.Need-returns-5
-returns-5 c = text-done (c .before .before .before .before .before .before .before .before .before .before .before .before .before .before .args .n) (c .before .before .before .before .before .before .before .before .before .before .before .before .before .before .args .text .now) (omega (arith, c .before .before .before .before .before .before .before .before .before .before .before .before .if1 .left)) (c .before .before .before .before .before .before .before .before .before .before .before .if2 .left) _ _ (c .before .before .before .before .before .before .before .before .before .parse .ensures) _ (c .before .before .before .before .before .before .before .part2 .given .1) (c .before .before .before .before .before .before .before .before .before .before .before .before .before .before .pre) _ (c .before .before .before .before .before .fault .ensures) (c .before .before .before .enum-told .given .1) (ap (λ z. subset z (c .before .before .before .before .before .before .before .part2 .given .0 .0 .set)) (sym (c .before .before .below32 .ensures)) ∙ sym (c .before .subset32 .ensures) ∙ c .if3 .taken) (search needs)
+returns-5 c = text-done (c .before .before .before .before .before .before .before .before .before .before .before .before .before .before .args .n) (c .before .before .before .before .before .before .before .before .before .before .before .before .before .before .args .text .now) (omega (arith, c .before .before .before .before .before .before .before .before .before .before .before .before .if1 .left)) (c .before .before .before .before .before .before .before .before .before .before .before .if2 .left) _ _ (c .before .before .before .before .before .before .before .before .before .parse .ensures) _ (c .before .before .before .before .before .before .before .part2 .given .1) (c .before .before .before .before .before .before .before .before .before .before .before .before .before .before .pre) _ (c .before .before .before .before .before .fault-of .ensures) (c .before .before .before .enum-told .given .1) (ap (λ z. subset z (c .before .before .before .before .before .before .before .part2 .given .0 .0 .set)) (sym (c .before .before .below32 .ensures)) ∙ sym (c .before .subset32 .ensures) ∙ c .if3 .taken) (search needs)
 
 -- src/lib.rt:87:1
 returns-6 : tie.Need-returns-6
-returns-6 c = c .refused5 .ensures ∙ ap (λ z. textAnswer (c .before .before .before .before .before .before .before .before .before .before .before .before .before .before .before .args .n) z) (text-lacks (c .before .before .before .before .before .before .before .before .before .before .before .before .before .before .before .args .n) (c .before .before .before .before .before .before .before .before .before .before .before .before .before .before .before .args .text .now) (omega (arith, c .before .before .before .before .before .before .before .before .before .before .before .before .before .if1 .left)) (c .before .before .before .before .before .before .before .before .before .before .before .before .if2 .left) _ _ (c .before .before .before .before .before .before .before .before .before .before .parse .ensures) _ (c .before .before .before .before .before .before .before .before .part2 .given .1) (c .before .before .before .before .before .before .before .before .before .before .before .before .before .before .before .pre) _ (c .before .before .before .before .before .before .fault .ensures) (c .before .before .before .before .enum-told .given .1) (ap (λ z. subset z (c .before .before .before .before .before .before .before .before .part2 .given .0 .0 .set)) (sym (c .before .before .before .below32 .ensures)) ∙ sym (c .before .before .subset32 .ensures) ∙ c .before .if3 .left))
+returns-6 c = c .refused5 .ensures ∙ ap (λ z. textAnswer (c .before .before .before .before .before .before .before .before .before .before .before .before .before .before .before .args .n) z) (text-lacks (c .before .before .before .before .before .before .before .before .before .before .before .before .before .before .before .args .n) (c .before .before .before .before .before .before .before .before .before .before .before .before .before .before .before .args .text .now) (omega (arith, c .before .before .before .before .before .before .before .before .before .before .before .before .before .if1 .left)) (c .before .before .before .before .before .before .before .before .before .before .before .before .if2 .left) _ _ (c .before .before .before .before .before .before .before .before .before .before .parse .ensures) _ (c .before .before .before .before .before .before .before .before .part2 .given .1) (c .before .before .before .before .before .before .before .before .before .before .before .before .before .before .before .pre) _ (c .before .before .before .before .before .before .fault-of .ensures) (c .before .before .before .before .enum-told .given .1) (ap (λ z. subset z (c .before .before .before .before .before .before .before .before .part2 .given .0 .0 .set)) (sym (c .before .before .before .below32 .ensures)) ∙ sym (c .before .before .subset32 .ensures) ∙ c .before .if3 .left))
 
 pub read-text-spec : {M : Type 1} → statement M
 read-text-spec =
@@ -103,7 +103,7 @@ read-text-spec =
     enum-known-part
     refused-requires-3
     enum-known-part-2
-    fault-requires
+    fault-of-requires
     enum-known-spot
     refused-requires-4
     enum-told
