@@ -13,8 +13,8 @@ use lib.Dec.{leb}
 use lib.ListN.{length}
 use borrow.Author.Tests.{leb-true, le-leb}
 use Rattle.expression.specs.Expr.{Expr, UsesOnce}
-use Rattle.expression.specs.Search.{orElse}
-use Rattle.expression.proofs.Bools.{and-true}
+use Rattle.expression.proofs.Search.{never, or-some}
+use Rattle.logic.proofs.Bools.{and-true}
 use Rattle.grammar.specs.Grammar.{Text, BadAt}
 use Rattle.grammar.specs.Reader.{Reading, accepted, refused, read}
 use Rattle.grammar.specs.Numbers.{numbers, fault, missing, misuse}
@@ -93,10 +93,9 @@ pub record Misused (n : ℕ) (t : List ℕ) (p : ℕ) : Type 0 where
   pub text : Text 32 t expr
   pub why : Leftmost n [] (numbers t) p ⊎ ((fault n [] (numbers t) ≡ none) × (missing n expr ≡ true) × (p ≡ length t))
 
-or-some : (a : Option ℕ) (b : Bool) (k p : ℕ) → orElse a (cond b (some k) none) ≡ some p → (a ≡ some p) ⊎ ((a ≡ none) × (b ≡ true) × (p ≡ k))
-or-some (some x) b k p h = inl h
-or-some none true k p h = inr (refl, refl, cc)
-or-some none false k p h = let z : _≡_ {A = ℕ} 0 1 = cc in absurd (omega arith)
+cond-some : (b : Bool) (k p : ℕ) → cond b (some k) none ≡ some p → (b ≡ true) × (p ≡ k)
+cond-some true k p h = (refl, cc)
+cond-some false k p h = absurd (never h)
 
 abbrev pub Says : ℕ → List ℕ → Ruling Expr → Type 0
 Says n t (refusal k p) = ((k ≡ 15) × (p ≡ 0) × (1 ≤ length t → length t ≤ 512 → ⊥)) ⊎ (((k ≡ 16) × BadAt 32 t p) ⊎ ((k ≡ 17) × Misused n t p))
@@ -114,7 +113,7 @@ read-says n t = top (leb 1 (length t) && leb (length t) 512) refl
           record {
             expr = e;
             text = j;
-            why = ⊎-elim (λ f. inl (fault-leftmost n [] (numbers t) p f)) (λ f. inr f) (or-some (fault n [] (numbers t)) (missing n e) (length t) p h);
+            why = ⊎-elim (λ f. inl (fault-leftmost n [] (numbers t) p f)) (λ f. let q = cond-some (missing n e) (length t) p (f .1) in inr (f .0, q .0, q .1)) (or-some (fault n [] (numbers t)) _ h);
           },
         ))
 
