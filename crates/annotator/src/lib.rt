@@ -15,7 +15,7 @@
 // mel(bytes, out)          the length of the MEL annotation, which fills the first bytes     .., 12    Annotation.melAnswer, Annotation.melBuffer in
 //                          of `out`; the rest of `out` is kept                                         `mel`
 // find_text(bytes, goal)   the place and the length of the goal's text in the record         .., 14    Answers.goalText
-// goal_text(bytes, goal)   the part of the lent record that holds this text; with any        -         Answers.goalText, Part.PartAt
+// goal_text(bytes, goal)   the part of the lent record that holds this text; with any        none      Answers.goalText, Part.PartAt
 //                          refusal, which find_text gives, the empty part at its start
 // check(bytes, text)       1 "same", or 2 "differs" with the first i, then j, for which      .., 15,   Answers.check, over Check.checked in `grammar`
 //                          just one of the two orders has i before j                         16, 17

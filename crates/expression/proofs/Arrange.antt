@@ -12,7 +12,7 @@ use Rattle.expression.specs.Expr.{Expr, goal, join, Members, one, more, 
 use Rattle.expression.specs.Form.{form, chosen, upFrom}
 use Rattle.expression.specs.Arrange.{Strict, rename, renameM, at, row, along, place, arrange, formRow, formList, formOnAny, formAny}
 use Rattle.expression.proofs.Fits.{In, InM, Apart, Cross, Fits, FitsM}
-use Rattle.expression.proofs.Bools.{by-test}
+use Rattle.logic.proofs.Bools.{by-test}
 use Rattle.expression.proofs.Exists.{Form, form-set, form-on, Member, chosen-member, chosen-goals, member-up}
 use Rattle.expression.proofs.Restore.{restored}
 use Rattle.expression.proofs.Search.{is-n, n-is}

@@ -8,7 +8,7 @@ use native.Mathlib.Omega.{arith}
 use Rattle.logic.proofs.Bools.{is-false}
 use Rattle.expression.specs.Expr.{Goals, Order}
 use Rattle.expression.specs.Closure.{Chain, wait, link, closed}
-use Rattle.expression.proofs.Bools.{and-true, or-true as or-cases}
+use Rattle.logic.proofs.Bools.{and-true, or-true as or-cases}
 
 module _ (W : ℕ → ℕ → Bool) where
   -- each step lets in no pair without a chain

@@ -9,7 +9,7 @@ use native.Mathlib.Omega.{arith}
 use Rattle.expression.specs.Expr.{Expr, goal, House, Goals, NoN, Order}
 use Rattle.expression.specs.Form.{insert, chosen, upFrom, build, formOf, formOn}
 use Rattle.expression.proofs.Fits.{In, Fits}
-use Rattle.expression.proofs.Bools.{by-test}
+use Rattle.logic.proofs.Bools.{by-test}
 use Rattle.expression.proofs.Suits.{no-back}
 use Rattle.expression.proofs.Insert.{inserted}
 

@@ -5,7 +5,7 @@ use mathlib.Core.Logic.{_⊎_, inl, inr, _≢_}
 use Prim.Native.Nat.{ℕ}
 use Rattle.expression.specs.Expr.{Expr, goal, join, Members, one, more, NoJoin}
 use Rattle.expression.specs.Split.{tie}
-use Rattle.expression.proofs.Bools.{not-self}
+use Rattle.logic.proofs.Bools.{not-self}
 
 -- i stands in e
 abbrev mutual

@@ -12,7 +12,7 @@ use borrow.Author.Tests.{leb-true, le-leb}
 use Rattle.expression.specs.Expr.{Expr, goal, join, Members, one, more, times, timesM, stands, standsM, before, beforeM, Once}
 use Rattle.expression.specs.Induced.{listed, members, At, Part, itself, inside, Holds, Innermost, Sequence, Earlier, Before}
 use Rattle.expression.proofs.Fits.{InM}
-use Rattle.expression.proofs.Bools.{test, or-true as or-cases, and-true as and-both}
+use Rattle.logic.proofs.Bools.{test, or-true as or-cases, and-true as and-both}
 use Rattle.expression.proofs.Spec.{timesM-in, in-stands}
 
 -- ---- members and what they hold

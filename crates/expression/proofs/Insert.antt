@@ -6,7 +6,7 @@ use Prim.Native.Nat.{ℕ, _<_}
 use native.Mathlib.Omega.{arith}
 use Rattle.expression.specs.Expr.{Expr, goal, join, Members, one, more, NoJoin, House, HouseM, least, NoN, Order}
 use Rattle.expression.specs.Form.{joined, suits, suitsM, unsuited, aside, gather, insert, insertM}
-use Rattle.expression.proofs.Bools.{by-test, not-true, not-self}
+use Rattle.logic.proofs.Bools.{by-test, not-true, not-self}
 use Rattle.expression.proofs.Fits.{In, InM, Apart, Cross, Fits, FitsM, tie-of, tie-back}
 use Rattle.expression.proofs.Least.{least-in, least-le, leastM-le}
 use Rattle.expression.proofs.Pick.{InP, inp-in, in-inp, pick-in, in-pick, pick-fits, pick-house, pick-joins, ascend, joined-in, in-joined, joined-fits, joined-house}

@@ -12,7 +12,7 @@ use borrow.Author.Tests.{eq-eqb, ne-eqb}
 use Rattle.expression.specs.Expr.{Expr, goal, join, Members, one, more, times, timesM, Once, UsesOnce}
 use Rattle.expression.specs.Text.{number, mark, inner, run, text}
 use Rattle.expression.proofs.Fits.{In, InM}
-use Rattle.expression.proofs.Bools.{by-test}
+use Rattle.logic.proofs.Bools.{by-test}
 use Rattle.expression.proofs.Uses.{in-range, uses-in}
 
 -- what the goals of e weigh together

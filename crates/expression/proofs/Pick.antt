@@ -7,7 +7,7 @@ use native.Mathlib.Omega.{arith}
 use Rattle.expression.specs.Expr.{Expr, Members, one, more, NoJoin, Ascend, House, HouseM, least, leastM}
 use Rattle.expression.specs.Form.{joined, pick}
 use Rattle.expression.proofs.Fits.{In, InM, Cross, Fits, FitsM}
-use Rattle.expression.proofs.Bools.{test, by-test}
+use Rattle.logic.proofs.Bools.{test, by-test}
 use Rattle.expression.proofs.Least.{leastM-in, leastM-le}
 
 -- ---- the join of one or more members

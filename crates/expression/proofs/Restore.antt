@@ -13,7 +13,7 @@ use Rattle.expression.proofs.Fits.{In, InM, Apart, Cross, Fits, FitsM}
 use Rattle.expression.proofs.Least.{least-in, least-le, leastM-le}
 use Rattle.expression.proofs.Pick.{ascend, joined-in, in-joined, joined-fits, joined-house}
 use Rattle.expression.proofs.Insert.{apart-sym}
-use Rattle.expression.proofs.Bools.{by-test, or-true as or-cases, or-false as or-parts, beq-true, beq-false}
+use Rattle.logic.proofs.Bools.{by-test, or-true as or-cases, or-false as or-parts, beq-true, beq-false}
 use Rattle.expression.proofs.Unique.{unique}
 use Rattle.expression.proofs.Spec.{in-times, times-in, fits-before, before-fits, before-in}
 

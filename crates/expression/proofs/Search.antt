@@ -1,5 +1,5 @@
 -- T5: the search for the first N finds the first if there is one.
-use mathlib.Core.Path.{_≡_, refl, sym, ap, _∙_, subst}
+use mathlib.Core.Path.{_≡_, refl, sym, ap, ap₂, _∙_, subst}
 use mathlib.Core.Bool.{Bool, true, cond}
 use mathlib.Core.Option.{Option, none, some}
 use mathlib.Core.Logic.{_⊎_, inl, inr, ⊎-elim}
@@ -9,7 +9,7 @@ use native.Mathlib.Omega.{arith}
 use Rattle.expression.specs.Expr.{N, NoN, Goals}
 use Rattle.expression.specs.Search.{Four, NotAfter, FirstN, orElse, firstIn, isN, firstN}
 pub use Rattle.expression.specs.Search.{IsN}
-use Rattle.expression.proofs.Bools.{by-test, and-true, not-true}
+use Rattle.logic.proofs.Bools.{by-test, and-true, not-true}
 
 -- ---- the test is the record
 module _ (R : ℕ → ℕ → Bool) {a b c d : ℕ} where
@@ -47,14 +47,14 @@ module _ (R : ℕ → ℕ → Bool) {a b c d : ℕ} where
 
 -- ---- one loop
 module _ {A : Type 0} where
-  never : {x : A} → _≡_ {A = Option A} none (some x) → ⊥
+  pub never : {x : A} → _≡_ {A = Option A} none (some x) → ⊥
   never e = let z : _≡_ {A = ℕ} 0 1 = cc in omega arith
 
-  or-none : (x y : Option A) → orElse x y ≡ none → (x ≡ none) × (y ≡ none)
+  pub or-none : (x y : Option A) → orElse x y ≡ none → (x ≡ none) × (y ≡ none)
   or-none none y h = (refl, h)
   or-none (some x) y h = (h, cc)
 
-  or-some : (x y : Option A) {z : A} → orElse x y ≡ some z → (x ≡ some z) ⊎ ((x ≡ none) × (y ≡ some z))
+  pub or-some : (x y : Option A) {z : A} → orElse x y ≡ some z → (x ≡ some z) ⊎ ((x ≡ none) × (y ≡ some z))
   or-some none y h = inr (refl, h)
   or-some (some x) y h = inl h
 
@@ -64,6 +64,10 @@ module _ {A : Type 0} where
     first-none (suc c) a h i l u =
         let t = or-none (f a) (firstIn f (suc a) c) h in
         ⊎-elim (λ e. ap f (sym e) ∙ t .0) (λ g. first-none c (suc a) (t .1) i g (omega arith)) (eq-or-lt-of-le l)
+
+    pub none-first : (c a : ℕ) → ((i : ℕ) → a ≤ i → i < a + c → f i ≡ none) → firstIn f a c ≡ none
+    none-first zero a h = refl
+    none-first (suc c) a h = rw (h a (omega arith) (omega arith)) (none-first c (suc a) (λ i l u. h i (omega arith) (omega arith)))
 
     -- what is found, and that nothing is found before it
     pub first-some : (c a : ℕ) {x : A} → firstIn f a c ≡ some x
@@ -80,6 +84,12 @@ module _ {A : Type 0} where
           λ j p q. ⊎-elim (λ e. ap f (sym e) ∙ t .0) (λ g. r .4 j g q) (eq-or-lt-of-le p),
         ))
         (or-some (f a) (firstIn f (suc a) c) h)
+
+  -- a search finds the same where it looks at the same
+  pub first-cong : (f g : ℕ → Option A) (a c : ℕ) → ((i : ℕ) → a ≤ i → i < a + c → f i ≡ g i) → firstIn f a c ≡ firstIn g a c
+  first-cong f g a zero h = refl
+  first-cong f g a (suc c) h =
+      ap₂ (λ x y. orElse x y) (h a (omega arith) (omega arith)) (first-cong f g (suc a) c (λ i l u. h i (omega arith) (omega arith)))
 
 -- ---- the four loops
 -- two numbers compared, where the second is not below the first

@@ -10,7 +10,7 @@ use borrow.Author.Tests.{eqb-true, eq-eqb, leb-true, le-leb}
 use Rattle.logic.proofs.Bools.{is-false}
 use Rattle.expression.specs.Expr.{Expr, goal, join, Members, one, more, times, timesM, stands, standsM, before, beforeM}
 use Rattle.expression.proofs.Fits.{In, InM, Cross, Fits, FitsM}
-use Rattle.expression.proofs.Bools.{test, or-true as or-cases, and-true as and-both}
+use Rattle.logic.proofs.Bools.{test, or-true as or-cases, and-true as and-both}
 
 -- ---- to stand in e is to stand there once or more
 mutual

@@ -10,7 +10,7 @@ use Rattle.expression.specs.Form.{suits, suitsM}
 use Rattle.expression.specs.Split.{tie}
 use Rattle.expression.proofs.Fits.{In, InM, Apart, Fits, FitsM, connected}
 use Rattle.expression.proofs.Pick.{InP}
-use Rattle.expression.proofs.Bools.{and-true, and-false, or-true, or-false, not-true, either, beq-true, beq-false}
+use Rattle.logic.proofs.Bools.{and-true, and-false, or-true, or-false, not-true, either, beq-true, beq-false}
 
 module _ (R : ℕ → ℕ → Bool) (v : ℕ) (k : Bool) where
   mutual

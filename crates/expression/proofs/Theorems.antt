@@ -24,7 +24,7 @@ use Rattle.expression.specs.Search.{Four, FirstN, firstN}
 use Rattle.expression.specs.Restore.{restore}
 use Rattle.expression.specs.Arrange.{Strict, formAny}
 use Rattle.expression.proofs.NoN.{no-n}
-use Rattle.expression.proofs.Bools.{and-true}
+use Rattle.logic.proofs.Bools.{and-true}
 use Rattle.expression.proofs.Exists.{form-on}
 use Rattle.expression.proofs.Split.{form-eq}
 use Rattle.expression.proofs.Spec.{times-in, stands-in, in-stands, before-fits, cond-le}

@@ -8,7 +8,7 @@ use lib.Dec.{leb}
 use borrow.Author.Tests.{leb-true, le-leb}
 use Rattle.expression.specs.Expr.{Expr, times, Once, UsesOnce, Goals, HasOrder, HouseForm}
 use Rattle.expression.proofs.Fits.{In, Fits}
-use Rattle.expression.proofs.Bools.{test, and-true}
+use Rattle.logic.proofs.Bools.{test, and-true}
 use Rattle.expression.proofs.Exists.{Form, form-set}
 use Rattle.expression.proofs.Spec.{in-times, times-in, fits-once, fits-before, before-fits, cond-le}
 

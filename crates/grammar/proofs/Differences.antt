@@ -6,35 +6,24 @@ use mathlib.Core.Path.{_≡_, refl, sym, ap, ap₂, _∙_, subst}
 use mathlib.Core.Bool.{Bool, true, false, cond, Bool·beq, true≢false}
 use mathlib.Core.Option.{Option, none, some}
 use mathlib.Core.Logic.{⊎-elim, _↔_}
-use Prim.Native.Nat.{ℕ, zero, suc, _+_, _≤_, _<_}
+use Prim.Native.Nat.{ℕ, _≤_, _<_}
 use native.Mathlib.Omega.{arith}
 use Rattle.expression.specs.Expr.{Goals}
-use Rattle.expression.specs.Search.{orElse, firstIn}
-use Rattle.expression.proofs.Bools.{test, beq-true}
-use Rattle.expression.proofs.Search.{first-none, first-some}
+use Rattle.expression.specs.Search.{firstIn}
+use Rattle.logic.proofs.Bools.{test, beq-true, beq-same}
+use Rattle.expression.proofs.Search.{never, first-none, none-first, first-some, first-cong}
 use Rattle.grammar.specs.Check.{differ, firstDiffer}
 
-beq-refl : (a b : Bool) → a ≡ b → Bool·beq a b ≡ true
-beq-refl true b e = rw (sym e)
-beq-refl false b e = rw (sym e)
-
 -- ---- two orders that do not differ
-none-in : {A : Type 0} (f : ℕ → Option A) (c a : ℕ) → ((i : ℕ) → a ≤ i → i < a + c → f i ≡ none) → firstIn f a c ≡ none
-none-in f zero a h = refl
-none-in f (suc c) a h = rw (h a (omega arith) (omega arith)) (none-in f c (suc a) (λ i lo hi. h i (omega arith) (omega arith)))
-
 differ-none : (R S : ℕ → ℕ → Bool) (i j : ℕ) → differ R S i j ≡ none → R i j ≡ S i j
-differ-none R S i j h = ⊎-elim (λ t. beq-true (R i j) (S i j) t) (λ t. absurd (some-not (sym (ap (λ b. cond b none (some (i, j))) t) ∙ h))) (test (Bool·beq (R i j) (S i j)))
-  where
-    some-not : _≡_ {A = Option (ℕ × ℕ)} (some (i, j)) none → ⊥
-    some-not e = let z : _≡_ {A = ℕ} 0 1 = cc in omega arith
+differ-none R S i j h = ⊎-elim (λ t. beq-true (R i j) (S i j) t) (λ t. absurd (never (sym h ∙ ap (λ b. cond b none (some (i, j))) t))) (test (Bool·beq (R i j) (S i j)))
 
 pub same-order : (n : ℕ) (R S : ℕ → ℕ → Bool) → (firstDiffer n R S ≡ none) ↔ ((i j : ℕ) → Goals n i → Goals n j → S i j ≡ R i j)
 unfolding firstDiffer
 same-order n R S = (
   λ h i j gi gj. sym (differ-none R S i j (first-none (λ j. differ R S i j) n 1 (first-none (λ i. firstIn (λ j. differ R S i j) 1 n) n 1 h i (gi .0) (omega arith)) j (gj .0) (omega arith))),
-  λ h. none-in (λ i. firstIn (λ j. differ R S i j) 1 n) n 1 (λ i lo hi. none-in (λ j. differ R S i j) n 1 (λ j lo′ hi′.
-      ap (λ b. cond b none (some (i, j))) (beq-refl (R i j) (S i j) (sym (h i j (lo, omega arith) (lo′, omega arith)))))),
+  λ h. none-first (λ i. firstIn (λ j. differ R S i j) 1 n) n 1 (λ i lo hi. none-first (λ j. differ R S i j) n 1 (λ j lo′ hi′.
+      ap (λ b. cond b none (some (i, j))) (beq-same (R i j) (S i j) (sym (h i j (lo, omega arith) (lo′, omega arith)))))),
 )
 
 pub record FirstDifference (n : ℕ) (R S : ℕ → ℕ → Bool) (i j : ℕ) : Type 0 where
@@ -51,7 +40,7 @@ differ-some R S a b i j h = go (Bool·beq (R a b) (S a b)) refl h
     go true t k = let z : _≡_ {A = ℕ} 0 1 = cc in absurd (omega arith)
     go false t k =
         let pair : _≡_ {A = ℕ × ℕ} (a, b) (i, j) = cc in
-        (ap (λ z. z .0) pair, ap (λ z. z .1) pair, λ e. absurd (true≢false (sym (beq-refl (R a b) (S a b) e) ∙ t)))
+        (ap (λ z. z .0) pair, ap (λ z. z .1) pair, λ e. absurd (true≢false (sym (beq-same (R a b) (S a b) e) ∙ t)))
 
 pub first-difference : (n : ℕ) (R S : ℕ → ℕ → Bool) (i j : ℕ) → firstDiffer n R S ≡ some (i, j) → FirstDifference n R S i j
 unfolding firstDiffer
@@ -70,11 +59,6 @@ first-difference n R S i j h =
     }
 
 -- ---- orders that agree
-first-cong : {A : Type 0} (f g : ℕ → Option A) (a c : ℕ) → ((i : ℕ) → a ≤ i → i < a + c → f i ≡ g i) → firstIn f a c ≡ firstIn g a c
-first-cong f g a zero h = refl
-first-cong f g a (suc c) h =
-    ap₂ (λ x y. orElse x y) (h a (omega arith) (omega arith)) (first-cong f g (suc a) c (λ i lo hi. h i (omega arith) (omega arith)))
-
 pub differ-cong : (n : ℕ) (R R′ S S′ : ℕ → ℕ → Bool) → ((i j : ℕ) → Goals n i → Goals n j → R i j ≡ R′ i j) → ((i j : ℕ) → Goals n i → Goals n j → S i j ≡ S′ i j)
     → firstDiffer n R S ≡ firstDiffer n R′ S′
 unfolding firstDiffer

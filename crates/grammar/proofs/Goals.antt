@@ -1,5 +1,5 @@
 -- The numbers found in a text of the grammar are the goals of its expression, and nothing is wrong with them exactly if the expression uses each goal once.
-use mathlib.Core.Path.{_≡_, refl, sym, ap, _∙_, subst}
+use mathlib.Core.Path.{_≡_, refl, sym, ap, ap₂, _∙_, subst}
 use mathlib.Core.Bool.{Bool, true, false, _&&_, _||_, cond}
 use mathlib.Core.List.{List, [], _∷_, _++_, append-assoc, append-nil}
 use mathlib.Core.Option.{Option, none, some}
@@ -13,7 +13,8 @@ use borrow.Author.Tests.{eqb-true, eqb-false, eq-eqb, ne-eqb, leb-true, le-leb, 
 use Rattle.expression.specs.Expr.{Expr, goal, join, Members, one, more, times, timesM, UsesOnce}
 use Rattle.expression.specs.Search.{orElse}
 use Rattle.expression.specs.Text.{mark}
-use Rattle.expression.proofs.Bools.{test, and-true, or-false, or-true}
+use Rattle.expression.proofs.Search.{never, or-none}
+use Rattle.logic.proofs.Bools.{test, and-true, or-false, or-true, or-l, or-r}
 use Rattle.grammar.specs.Grammar.{Number, single, double, Joined, alone, several, Others, last, next, Member, group, number, parens, Text}
 use Rattle.grammar.specs.Numbers.{Found, found, fresh, grown, scan, numbers, among, fault, missing, misuse}
 use Rattle.grammar.proofs.Signs.{sign-digit}
@@ -143,10 +144,6 @@ none-among v (w ∷ l) h =
 abbrev pub Good : ℕ → List ℕ → List ℕ → Type 0
 Good n met vs = (i : ℕ) → 1 ≤ count vs i → (i ≤ n) × (count vs i + count met i ≤ 1)
 
-abbrev None : Option ℕ → Type 0
-None none = Unit {0}
-None (some x) = ⊥
-
 flag : (b c : Bool) → b ≡ c → cond {A = ℕ} b 1 0 ≡ cond c 1 0
 flag b c e = ap (λ z. cond {A = ℕ} z 1 0) e
 
@@ -159,24 +156,24 @@ good-one n met v vs le zero-met h i p = ⊎-elim (λ t. here (eqb-true i v t) (f
     there : cond {A = ℕ} (eqb i v) 1 0 ≡ 0 → (i ≤ n) × (count (v ∷ vs) i + count met i ≤ 1)
     there t = let g = h i (omega arith) in (g .0, omega (arith, g .1))
 
-fault-good : (n : ℕ) (met : List ℕ) (l : List Found) → None (fault n met l) → Good n met (values l)
+fault-good : (n : ℕ) (met : List ℕ) (l : List Found) → fault n met l ≡ none → Good n met (values l)
 fault-good n met [] h = λ i p. absurd (omega arith)
 fault-good n met (x ∷ l) h =
     let v = x .value in
-    let t : (ltb n v || among v met) ≡ false = ⊎-elim (λ t. absurd (subst (λ b. None (cond b (some (x .place)) (fault n (v ∷ met) l))) t h)) (λ t. t) (test (ltb n v || among v met)) in
+    let t : (ltb n v || among v met) ≡ false = ⊎-elim (λ t. absurd (never (sym h ∙ ap (λ b. cond b (some (x .place)) (fault n (v ∷ met) l)) t))) (λ t. t) (test (ltb n v || among v met)) in
     let both = or-false (ltb n v) (among v met) t in
     good-one n met v (values l) (ltb-false n v (both .0)) (among-none v met (both .1))
-    (fault-good n (v ∷ met) l (subst (λ b. None (cond b (some (x .place)) (fault n (v ∷ met) l))) t h))
+    (fault-good n (v ∷ met) l (sym (ap (λ b. cond b (some (x .place)) (fault n (v ∷ met) l)) t) ∙ h))
 
-good-fault : (n : ℕ) (met : List ℕ) (l : List Found) → Good n met (values l) → None (fault n met l)
-good-fault n met [] g = tt
+good-fault : (n : ℕ) (met : List ℕ) (l : List Found) → Good n met (values l) → fault n met l ≡ none
+good-fault n met [] g = refl
 good-fault n met (x ∷ l) g =
     let v = x .value in
     let one-here : cond {A = ℕ} (eqb v v) 1 0 ≡ 1 = flag _ _ (eq-eqb v v refl) in
     let here = g v (omega arith) in
     let t : (ltb n v || among v met) ≡ false = rw (le-ltb n v (here .0)) (none-among v met (omega (arith, here .1))) in
-    subst (λ b. None (cond b (some (x .place)) (fault n (v ∷ met) l))) (sym t)
-    (good-fault n (v ∷ met) l (λ i p. let r = g i (omega arith) in (r .0, omega (arith, r .1))))
+    ap (λ b. cond b (some (x .place)) (fault n (v ∷ met) l)) t
+    ∙ (good-fault n (v ∷ met) l (λ i p. let r = g i (omega arith) in (r .0, omega (arith, r .1))))
 
 missing-none : (n : ℕ) (e : Expr) → missing n e ≡ false → (i : ℕ) → 1 ≤ i → i ≤ n → 1 ≤ times e i
 missing-none zero e h i lo hi = absurd (omega arith)
@@ -190,16 +187,8 @@ none-missing zero e h = refl
 none-missing (suc n) e h = rw (ne-eqb (times e (suc n)) 0 (λ q. omega (arith, h (suc n) (omega arith) (omega arith)))) (none-missing n e (λ i lo hi. h i lo (omega arith)))
 
 -- Nothing is wrong with the numbers exactly if each goal is used once.
-or-none : (a b : Option ℕ) → orElse a b ≡ none → None a × (b ≡ none)
-or-none none b h = (tt, h)
-or-none (some x) b h = absurd (subst None (sym h) tt)
-
-none-or : (a b : Option ℕ) → None a → b ≡ none → orElse a b ≡ none
-none-or none b h q = q
-none-or (some x) b h q = absurd h
-
 cond-none : (b : Bool) (x : ℕ) → cond b (some x) none ≡ none → b ≡ false
-cond-none true x h = absurd (subst None (sym h) tt)
+cond-none true x h = absurd (never (sym h))
 cond-none false x h = refl
 
 pub misuse-none : (d n : ℕ) (t : List ℕ) (e : Expr) → Text d t e → (misuse n t e ≡ none) ↔ UsesOnce n e
@@ -221,7 +210,7 @@ misuse-none d n t e j = (λ h. to h, λ u. back u)
 
     back : UsesOnce n e → misuse n t e ≡ none
     back u =
-        none-or (fault n [] (numbers t)) (cond (missing n e) (some (length t)) none)
+        ap₂ (λ (x y : Option ℕ). orElse x y)
         (good-fault n [] (numbers t) (λ i p.
         ⊎-elim
         (λ q. (leb-true i n (and-true (leb 1 i) (leb i n) q .1), omega (arith, same i, u i, flag _ _ q)))
@@ -243,7 +232,7 @@ some-is : (x p : ℕ) → some x ≡ some p → p ≡ x
 some-is x p h = cc
 
 pub fault-leftmost : (n : ℕ) (met : List ℕ) (l : List Found) (p : ℕ) → fault n met l ≡ some p → Leftmost n met l p
-fault-leftmost n met [] p h = absurd (subst None h tt)
+fault-leftmost n met [] p h = absurd (never h)
 fault-leftmost n met (x ∷ l) p h = go (λ i. fault-leftmost n (x .value ∷ met) l p i) (ltb n (x .value) || among (x .value) met) refl h
   where
     go : (fault n (x .value ∷ met) l ≡ some p → Leftmost n (x .value ∷ met) l p)
@@ -269,13 +258,9 @@ fault-leftmost n met (x ∷ l) p h = go (λ i. fault-leftmost n (x .value ∷ me
           place = r .place;
           wrong = ⊎-elim (λ a. inl a)
               (λ a. inr (⊎-elim
-              (λ b. ⊎-elim (λ c. inr (ap (λ z. z || among (r .here .value) (values (r .earlier))) c)) (λ c. inl c) (or-true (eqb (r .here .value) (x .value)) (among (r .here .value) met) b))
-              (λ b. inr (ap (λ z. eqb (r .here .value) (x .value) || z) b ∙ or-last (eqb (r .here .value) (x .value))))
+              (λ b. ⊎-elim (λ c. inr (or-l (eqb (r .here .value) (x .value)) (among (r .here .value) (values (r .earlier))) c)) (λ c. inl c) (or-true (eqb (r .here .value) (x .value)) (among (r .here .value) met) b))
+              (λ b. inr (or-r (eqb (r .here .value) (x .value)) (among (r .here .value) (values (r .earlier))) b))
               a))
               (r .wrong);
           fine = good-one n met (x .value) (values (r .earlier)) (ltb-false n (x .value) (both .0)) (among-none (x .value) met (both .1)) (r .fine);
         }
-      where
-        or-last : (b : Bool) → (b || true) ≡ true
-        or-last true = refl
-        or-last false = refl

@@ -2,6 +2,7 @@
 --     read-answer     an expression exactly if the text has 1 to 512 bytes, is a text of it, and it uses each goal once
 --     read-16         refusal 16 at k exactly if the text has 1 to 512 bytes and k is its bad place
 --     read-says       every ruling in words
+--     read-place      a refusal's place lies in the text or at its end, and is at most 512
 use mathlib.Core.Path.{_≡_, refl, sym, ap, _∙_, subst}
 use mathlib.Core.Bool.{Bool, true, false, _&&_, cond, true≢false}
 use mathlib.Core.List.{List, []}
@@ -13,14 +14,15 @@ use lib.Dec.{leb}
 use lib.ListN.{length}
 use borrow.Author.Tests.{leb-true, le-leb}
 use Rattle.expression.specs.Expr.{Expr, UsesOnce}
-use Rattle.expression.specs.Search.{orElse}
-use Rattle.expression.proofs.Bools.{and-true}
+use Rattle.expression.proofs.Search.{never, or-some}
+use Rattle.logic.proofs.Bools.{and-true}
 use Rattle.grammar.specs.Grammar.{Text, BadAt}
 use Rattle.grammar.specs.Reader.{Reading, accepted, refused, read}
 use Rattle.grammar.specs.Numbers.{numbers, fault, missing, misuse}
 use Rattle.grammar.specs.Reading.{Ruling, refusal, answer, numbered, decided, readText}
 use Rattle.grammar.proofs.Decides.{read-accepts, read-refuses}
 use Rattle.grammar.proofs.Goals.{misuse-none, Leftmost, fault-leftmost}
+use Rattle.grammar.proofs.Places.{AllPlaced, numbers-placed, number-inside}
 
 -- 1 to 512 bytes
 abbrev Sized : List ℕ → Type 0
@@ -93,10 +95,9 @@ pub record Misused (n : ℕ) (t : List ℕ) (p : ℕ) : Type 0 where
   pub text : Text 32 t expr
   pub why : Leftmost n [] (numbers t) p ⊎ ((fault n [] (numbers t) ≡ none) × (missing n expr ≡ true) × (p ≡ length t))
 
-or-some : (a : Option ℕ) (b : Bool) (k p : ℕ) → orElse a (cond b (some k) none) ≡ some p → (a ≡ some p) ⊎ ((a ≡ none) × (b ≡ true) × (p ≡ k))
-or-some (some x) b k p h = inl h
-or-some none true k p h = inr (refl, refl, cc)
-or-some none false k p h = let z : _≡_ {A = ℕ} 0 1 = cc in absurd (omega arith)
+cond-some : (b : Bool) (k p : ℕ) → cond b (some k) none ≡ some p → (b ≡ true) × (p ≡ k)
+cond-some true k p h = (refl, cc)
+cond-some false k p h = absurd (never h)
 
 abbrev pub Says : ℕ → List ℕ → Ruling Expr → Type 0
 Says n t (refusal k p) = ((k ≡ 15) × (p ≡ 0) × (1 ≤ length t → length t ≤ 512 → ⊥)) ⊎ (((k ≡ 16) × BadAt 32 t p) ⊎ ((k ≡ 17) × Misused n t p))
@@ -114,7 +115,7 @@ read-says n t = top (leb 1 (length t) && leb (length t) 512) refl
           record {
             expr = e;
             text = j;
-            why = ⊎-elim (λ f. inl (fault-leftmost n [] (numbers t) p f)) (λ f. inr f) (or-some (fault n [] (numbers t)) (missing n e) (length t) p h);
+            why = ⊎-elim (λ f. inl (fault-leftmost n [] (numbers t) p f)) (λ f. let q = cond-some (missing n e) (length t) p (f .1) in inr (f .0, q .0, q .1)) (or-some (fault n [] (numbers t)) _ h);
           },
         ))
 
@@ -125,3 +126,32 @@ read-says n t = top (leb 1 (length t) && leb (length t) 512) refl
     top : (b : Bool) → (leb 1 (length t) && leb (length t) 512) ≡ b → Says n t (cond b (decided n t (read 32 t)) (refusal 15 0))
     top true e = readings (read 32 t) refl
     top false e = inl (refl, refl, λ lo hi. true≢false (sym (rw (le-leb 1 (length t) lo, le-leb (length t) 512 hi)) ∙ e))
+
+-- ---- places
+fault-inside : (n : ℕ) (t : List ℕ) (p : ℕ) → fault n [] (numbers t) ≡ some p → p < length t
+fault-inside n t p h =
+    let f = fault-leftmost n [] (numbers t) p h in
+    let l = number-inside t (f .earlier) (f .here) (f .later) (subst (AllPlaced t) (f .split) (numbers-placed t)) in
+    omega (arith, f .place, l)
+
+pub read-place : (n : ℕ) (t : List ℕ) (k p : ℕ) → readText n t ≡ refusal k p → (p ≤ length t) × (p ≤ 512)
+unfolding readText
+read-place n t k p h = sizes (leb 1 (length t) && leb (length t) 512) refl h
+  where
+    used : (x : Expr) (o : Option ℕ) → misuse n t x ≡ o → numbered x o ≡ refusal k p → p ≤ length t
+    used x none m e = absurd (subst Answer e tt)
+    used x (some q) m e =
+        let same : q ≡ p = cc in
+        ⊎-elim (λ f. omega (arith, same, fault-inside n t q f)) (λ f. omega (arith, same, cond-some (missing n x) (length t) q (f .1) .1)) (or-some (fault n [] (numbers t)) _ m)
+
+    within : (r : Reading) → read 32 t ≡ r → decided n t r ≡ refusal k p → p ≤ length t
+    within (refused q) r e =
+        let same : q ≡ p = cc in
+        ⊎-elim (λ s. omega (arith, same, s .0)) (λ s. omega (arith, same, s .0)) (read-refuses 32 t q .0 r .stops)
+    within (accepted x) r e = used x (misuse n t x) refl e
+
+    sizes : (b : Bool) → (leb 1 (length t) && leb (length t) 512) ≡ b → cond b (decided n t (read 32 t)) (refusal 15 0) ≡ refusal k p → (p ≤ length t) × (p ≤ 512)
+    sizes true q e =
+        let l = within (read 32 t) refl e in
+        (l, omega (arith, l, leb-true (length t) 512 (and-true (leb 1 (length t)) (leb (length t) 512) q .1)))
+    sizes false q e = let none-read : 0 ≡ p = cc in (omega arith, omega arith)

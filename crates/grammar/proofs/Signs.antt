@@ -6,7 +6,7 @@ use native.Mathlib.Omega.{arith}
 use lib.Dec.{eqb, leb}
 use borrow.Author.Tests.{eqb-true, ne-eqb, leb-true, le-leb}
 use Rattle.expression.specs.Text.{mark}
-use Rattle.expression.proofs.Bools.{by-test, and-true}
+use Rattle.logic.proofs.Bools.{by-test, and-true}
 use Rattle.grammar.specs.Reader.{Sign, digit, joiner, opener, closer, other, sign}
 
 pub sign-digit : (v : ℕ) → v < 10 → sign (48 + v) ≡ digit v

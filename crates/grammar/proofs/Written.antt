@@ -11,7 +11,7 @@ use borrow.Author.Tests.{ltb-true, ltb-false}
 use Rattle.expression.specs.Expr.{Expr, goal, join, Members, one, more, UsesOnce}
 use Rattle.expression.specs.Text.{mark, inner, run, text}
 use Rattle.expression.specs.Text
-use Rattle.expression.proofs.Bools.{by-test}
+use Rattle.logic.proofs.Bools.{by-test}
 use Rattle.expression.proofs.Fits.{In, InM}
 use Rattle.expression.proofs.Theorems.{uses-in}
 use Rattle.expression.proofs.Length.{joins, joinsM, joins-few, text-fits}

@@ -23,7 +23,7 @@ use Rattle.annotator.specs.declared.ReadAnswer.{ReadAnswer}
 use Rattle.annotator.specs.declared.ReadAnswer.the-variants.{Accepted, Refused}
 use Rattle.annotator.specs.Answers.{afterReading, ReadValues, noRecord, readValues, read, orderGraph}
 use Rattle.lfj.specs.Words.{refusalWord, noGoals, goalsAfter, after, afterWord}
-use Rattle.lfj.proofs.Numbers.{refusal-number}
+use Rattle.lfj.proofs.Refusals.{refusal-number}
 
 module _ (b : List ℕ) where
   -- what reading says, by the case of the record

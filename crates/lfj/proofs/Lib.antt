@@ -1,5 +1,6 @@
-pub mod Numbers
+pub mod Refusals
 pub mod Words
 pub mod After
 pub mod Encoding
 pub mod Operations
+pub mod Fits

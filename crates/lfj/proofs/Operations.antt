@@ -35,7 +35,7 @@ use Rattle.annotator.specs.Answers.{afterReading, noRecord, read, noText, textO
 use Rattle.lfj.specs.Words.{readWord, noGoals, goalsAfter, after, afterWord, formWord}
 use Rattle.lfj.proofs.Encoding.{read-number, after-number, form-number}
 
-isNone : F.Plan → Bool
+unfoldable pub isNone : F.Plan → Bool
 isNone (F.refused k p) = false
 isNone (F.noForm q) = true
 isNone (F.written t) = false

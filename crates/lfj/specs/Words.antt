@@ -15,7 +15,8 @@ use Rattle.form.specs.Form as F
 use Rattle.mel.specs.Annotation as M
 use Rattle.annotator.specs.Answers.{afterReading, ReadValues, TextValues, CheckValues}
 
--- "bits 56 to 63 the refusal's number", "bits 0 to 31 the place": a place that has more bits, which no record gives, is cut to these
+-- "bits 56 to 63 the refusal's number", "bits 0 to 31 the place": a place that has more bits is cut to these. No place of a record shorter than 2 ^ 32 bytes
+-- has, and no length (proofs/Fits.antt).
 unfoldable pub refusalWord : ℕ → ℕ → ℕ
 refusalWord number place = number * 2 ^ 56 + place % 2 ^ 32
 

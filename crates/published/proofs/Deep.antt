@@ -1,5 +1,5 @@
 -- Figure 1 and section 3.2 for any vertices: the calls end, no N answers true, and true has the linear expression.
-use mathlib.Core.Path.{_≡_, refl, ap, ap₂, _∙_}
+use mathlib.Core.Path.{_≡_, refl, ap, ap₂}
 use mathlib.Core.Bool.{Bool, true, _&&_}
 use mathlib.Core.List.{List, [], _∷_}
 use mathlib.Core.Logic.{inl, inr, _↔_, _≢_}
@@ -9,7 +9,7 @@ use lib.ListN.{length}
 use Rattle.expression.specs.Expr.{Expr, NoN}
 use Rattle.expression.specs.Arrange.{Strict}
 use Rattle.expression.proofs.NoN.{no-n}
-use Rattle.expression.proofs.Bools.{and-true}
+use Rattle.logic.proofs.Bools.{and-true}
 use Rattle.published.specs.Sets.{_∈_, every}
 use Rattle.published.specs.Figure1.{Q, S, F, lemma1, lemma3, udgDeep, udg-compilable-WLOP}
 use Rattle.published.specs.Linear.{group, inwards, after, built, linearDeep, linear}

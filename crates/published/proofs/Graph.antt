@@ -1,14 +1,14 @@
 -- The sets P, Q, E(q), S and F of figure 1 for a strict order on the vertices: what stands in them.
 use mathlib.Core.Path.{_≡_, refl, sym, ap, _∙_, subst}
-use mathlib.Core.Bool.{Bool, true, false, not, true≢false, false≢true, Bool·beq}
+use mathlib.Core.Bool.{Bool, true, false, not, true≢false, Bool·beq}
 use mathlib.Core.List.{List, [], _∷_, map}
 use mathlib.Core.Logic.{_⊎_, inl, inr, ⊎-elim}
-use Prim.Native.Nat.{ℕ, _≤_, _<_}
+use Prim.Native.Nat.{ℕ, _<_}
 use native.Mathlib.Omega.{arith}
 use lib.ListN.{length}
 use Rattle.expression.specs.Arrange.{Strict}
-use Rattle.expression.proofs.Bools.{test, and-true, not-true, beq-true}
-use Rattle.published.specs.Sets.{_∈_, every, any, among, same, subset, distinct}
+use Rattle.logic.proofs.Bools.{test, and-true, not-true, beq-true, beq-same}
+use Rattle.published.specs.Sets.{_∈_, every, any, among, subset}
 use Rattle.published.specs.Figure1.{P, Q, E, S, F}
 use Rattle.published.proofs.Lists.{
   every-in,
@@ -30,10 +30,6 @@ use Rattle.published.proofs.Lists.{
   distinct-in,
   in-distinct,
 }
-
-beq-same : (a b : Bool) → a ≡ b → Bool·beq a b ≡ true
-beq-same true b e = subst (λ z. Bool·beq true z ≡ true) e refl
-beq-same false b e = subst (λ z. Bool·beq false z ≡ true) e refl
 
 module _ (R : ℕ → ℕ → Bool) (W : List ℕ) where
   -- ---- P: no vertex is before them

@@ -4,12 +4,12 @@ use mathlib.Core.Bool.{Bool, true, false, not, _&&_, true≢false}
 use mathlib.Core.List.{List, [], _∷_}
 use mathlib.Core.Logic.{_⊎_, inl, inr, ⊎-elim}
 use Prim.Native.Nat.{ℕ}
-use Rattle.expression.specs.Expr.{Expr, Members, one, more, stands}
+use Rattle.expression.specs.Expr.{Expr, one, stands}
 use Rattle.expression.proofs.Fits.{In, InM, Cross, Fits, FitsM}
 use Rattle.expression.proofs.Pick.{joined-in, in-joined, joined-fits}
 use Rattle.expression.proofs.Spec.{stands-in, in-stands}
 use Rattle.expression.proofs.Insert.{apart-sym}
-use Rattle.expression.proofs.Bools.{test, by-test, not-true}
+use Rattle.logic.proofs.Bools.{test, by-test, not-true}
 use Rattle.published.specs.Sets.{_∈_, subset, same}
 use Rattle.published.specs.Linear.{members, group, place, inwards, meets}
 use Rattle.published.proofs.Lists.{any-true, in-any, Pair, subset-in, in-subset}

@@ -1,6 +1,6 @@
 -- Lemmas 1, 2 and 3 of document 003 for any vertices: lemma 2 holds of every strict order, the conditions of lemmas 1 and 3 hold where there is no N.
-use mathlib.Core.Path.{_≡_, refl, sym, ap, ap₂, _∙_, subst}
-use mathlib.Core.Bool.{Bool, true, false, not, _||_, _&&_, true≢false, false≢true, or-true}
+use mathlib.Core.Path.{_≡_, sym, ap, ap₂, _∙_}
+use mathlib.Core.Bool.{Bool, true, false, not, _||_, _&&_, true≢false, or-true}
 use mathlib.Core.List.{List}
 use mathlib.Core.Logic.{_⊎_, inl, inr, ⊎-elim}
 use Prim.Native.Nat.{ℕ}
@@ -8,11 +8,11 @@ use lib.Dec.{eqb}
 use borrow.Author.Tests.{eqb-true}
 use Rattle.expression.specs.Expr.{N, NoN}
 use Rattle.expression.specs.Arrange.{Strict}
-use Rattle.expression.proofs.Bools.{test, and-true, not-true, or-true as or-cases}
+use Rattle.logic.proofs.Bools.{test, and-true, not-true, or-true as or-cases}
 use Rattle.published.specs.Sets.{_∈_, Disjoint, Subset, every, subset, inside, disjoint}
 use Rattle.published.specs.Figure1.{P, S, F, lemma1, lemma3}
 use Rattle.published.proofs.Lists.{every-in, in-every, in-subset, subset-in, subset-false, disjoint-in, disjoint-false}
-use Rattle.published.proofs.Graph.{p-in, f-in, f-vertex, f-waits, f-free, s-part, s-f, s-some}
+use Rattle.published.proofs.Graph.{p-in, f-vertex, f-waits, f-free, s-part, s-f, s-some}
 
 module _ (R : ℕ → ℕ → Bool) (W : List ℕ) where
   -- ---- what the two conditions say

@@ -6,8 +6,8 @@ use mathlib.Core.Logic.{_⊎_, inl, inr, ⊎-elim, _↔_, _≢_}
 use Prim.Native.Nat.{ℕ}
 use Rattle.expression.specs.Expr.{Expr, goal, join, one}
 use Rattle.expression.specs.Arrange.{Strict}
-use Rattle.expression.proofs.Fits.{In, Apart, Cross, Fits}
-use Rattle.expression.proofs.Bools.{test}
+use Rattle.expression.proofs.Fits.{In, Apart, Fits}
+use Rattle.logic.proofs.Bools.{test}
 use Rattle.published.specs.Sets.{_∈_, Disjoint, Subset, those, subset}
 use Rattle.published.specs.Figure1.{P, Q, E, S, F, lemma1, lemma3}
 use Rattle.published.specs.Linear.{group, inwards, meets, after, built}

@@ -5,15 +5,15 @@
 --     among-in, in-among, subset-in, in-subset, ..     sets of numbers
 --     distinct-in, in-distinct, distinct-pair     a list of sets, each kept once
 use mathlib.Core.Path.{_≡_, refl, sym, ap, ap₂, _∙_, subst}
-use mathlib.Core.Bool.{Bool, true, false, not, _&&_, _||_, cond, true≢false, false≢true}
+use mathlib.Core.Bool.{Bool, true, false, not, _&&_, _||_, true≢false, false≢true}
 use mathlib.Core.List.{List, [], _∷_, map}
 use mathlib.Core.Logic.{_⊎_, inl, inr, ⊎-elim}
-use Prim.Native.Nat.{ℕ, zero, suc, _≤_, _<_}
+use Prim.Native.Nat.{ℕ, suc, _≤_, _<_}
 use native.Mathlib.Omega.{arith}
 use lib.Dec.{eqb}
 use lib.ListN.{length}
 use borrow.Author.Tests.{eqb-true, eq-eqb}
-use Rattle.expression.proofs.Bools.{test, by-test, and-true, and-false, or-true, or-false, not-true}
+use Rattle.logic.proofs.Bools.{test, by-test, and-true, and-false, or-true, or-false, not-true}
 use Rattle.published.specs.Sets.{_∈_, every, any, those, among, subset, disjoint, same, distinct}
 
 module _ {A : Type 0} where

@@ -13,7 +13,7 @@ use Rattle.expression.specs.Arrange.{Strict, formAny}
 use Rattle.expression.specs.Restore.{restore}
 use Rattle.expression.specs.Search.{Four, firstN}
 use Rattle.expression.proofs.Fits.{In, Fits}
-use Rattle.expression.proofs.Bools.{test}
+use Rattle.logic.proofs.Bools.{test}
 use Rattle.expression.proofs.Exists.{Member, member-up, up-member}
 use Rattle.expression.proofs.Spec.{fits-once, fits-before}
 use Rattle.expression.proofs.Theorems.{of-in, order-no-n, form-any, has-expression-any, order-strict, form-unique, form-any-is}

@@ -1,16 +1,16 @@
 -- The set of the numbers below w of which a test holds; and bounds of the operations.
-use mathlib.Core.Path.{_≡_, refl, sym, ap, ap₂, _∙_}
-use mathlib.Core.Logic.{_⊎_, inl, inr, ⊎-elim}
-use mathlib.Core.Bool.{Bool, true, false, not, _&&_, _||_, cond, true≢false, false≢true}
-use Prim.Native.Nat.{ℕ, zero, suc, _^_, _≤_, _<_}
-use native.Mathlib.Nat.{eq-or-lt-of-le, le-of-suc-le-suc, le-step, lt-of-lt-of-le}
+use mathlib.Core.Path.{_≡_, refl, sym, ap, _∙_}
+use mathlib.Core.Logic.{_⊎_, ⊎-elim}
+use mathlib.Core.Bool.{Bool, true, false, not, _&&_, _||_, cond, or-true, or-false}
+use Prim.Native.Nat.{ℕ, zero, suc, _^_, _<_}
+use native.Mathlib.Nat.{eq-or-lt-of-le, le-of-suc-le-suc, le-step}
 use native.Mathlib.Omega.{arith}
 use lib.Dec.{eqb, ltb}
 use lib.Pow.{pow-lt}
-use borrow.Author.Tests.{lt-ltb, le-ltb, ltb-true, eq-eqb, ne-eqb, eqb-true}
+use borrow.Author.Tests.{lt-ltb, le-ltb, ltb-true, eq-eqb, eqb-true}
 use Rattle.logic.proofs.Bools.{iff, and-l, and-r, and-i, or-elim, is-false}
 use Rattle.sets.specs.Sets.{has, union, meet, without, single, setOf}
-use Rattle.sets.proofs.Laws.{has-union, has-meet, has-without, has-single, has-empty, has-above, member-below, below-of, ext}
+use Rattle.sets.proofs.Laws.{has-union, has-meet, has-without, has-single, has-empty, member-below, below-of, ext}
 
 -- ---- bounds
 
@@ -35,11 +35,7 @@ without-lt w a b ha = members-lt w (without a b) (λ i e. member-below w a i ha 
 
 step : (m w : ℕ) (p : Bool) (i : ℕ) → has (cond p (union m (single w)) m) i ≡ has m i || (p && eqb w i)
 step m w true i = has-union m (single w) i ∙ ap (λ (t : Bool). has m i || t) (has-single w i)
-step m w false i = or-none (has m i)
-  where
-    or-none : (q : Bool) → q ≡ q || false
-    or-none true = refl
-    or-none false = refl
+step m w false i = sym (or-false (has m i))
 
 pub has-setOf : (w : ℕ) (f : ℕ → Bool) (i : ℕ) → has (setOf w f) i ≡ ltb i w && f i
 unfolding setOf
@@ -63,10 +59,6 @@ has-setOf (suc w) f i =
         (λ s. ap (λ (t : Bool). (ltb i w && f i) || t) (and-i (f w) (eqb w i) (ap f (sym s) ∙ e) (eq-eqb w i (sym s))) ∙ or-true (ltb i w && f i))
         (λ k. ap (λ (t : Bool). t || (f w && eqb w i)) (and-i (ltb i w) (f i) (lt-ltb i w k) e))
         (eq-or-lt-of-le (le-of-suc-le-suc l))
-      where
-        or-true : (q : Bool) → q || true ≡ true
-        or-true true = refl
-        or-true false = refl
 
 pub setOf-lt : (w : ℕ) (f : ℕ → Bool) → setOf w f < 2 ^ w
 setOf-lt w f = members-lt w (setOf w f) (λ i e. ltb-true i w (and-l (ltb i w) (f i) (sym (has-setOf w f i) ∙ e)))

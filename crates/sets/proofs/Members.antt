@@ -1,7 +1,7 @@
 -- The members of a set as an ascending list, and their count.
 use mathlib.Core.Path.{_≡_, refl, sym, ap, ap₂, _∙_}
 use mathlib.Core.Logic.{_⊎_, inl, inr, ⊎-elim}
-use mathlib.Core.Bool.{Bool, true, false, not, _&&_, cond, true≢false, false≢true}
+use mathlib.Core.Bool.{Bool, true, false, not, _&&_, cond, true≢false, false≢true, and-true, and-false}
 use mathlib.Core.List.{List, [], _∷_}
 use Prim.Native.Nat.{ℕ, zero, suc, _+_, _/_, _%_, _^_, _≤_, _<_, zero-le}
 use native.Mathlib.Nat.{eq-or-lt-of-le, zero-add, mod-lt, lt-of-not-le, le-of-suc-le-suc, not-suc-le-zero, zero-lt-suc, le-refl}
@@ -101,17 +101,9 @@ from-cong (suc k) i a b h = ap₂ (λ (t : Bool) (r : List ℕ). cond t (i ∷ r
 -- what is left without x
 other : (m x j : ℕ) → (x ≡ j → ⊥) → has (without m (single x)) j ≡ has m j
 other m x j n = has-without m (single x) j ∙ ap (λ (t : Bool). has m j && not t) (has-single x j ∙ ne-eqb x j n) ∙ and-true (has m j)
-  where
-    and-true : (b : Bool) → b && true ≡ b
-    and-true true = refl
-    and-true false = refl
 
 gone : (m x : ℕ) → has (without m (single x)) x ≡ false
 gone m x = has-without m (single x) x ∙ ap (λ (t : Bool). has m x && not t) (has-single x x ∙ eq-eqb x x refl) ∙ and-false (has m x)
-  where
-    and-false : (b : Bool) → b && false ≡ false
-    and-false true = refl
-    and-false false = refl
 
 from-first : (k i m x : ℕ) → ((j : ℕ) → j < x → has m j ≡ false) → has m x ≡ true → i ≤ x → x < i + k
     → membersFrom k i m ≡ x ∷ membersFrom k i (without m (single x))
