@@ -40,8 +40,11 @@ fn component(after: &[u32; 32], prior: &[u32; 32], k: bool, set: u32, x: usize) 
     requires { ⌜ (x < 32) × Has set (suc x) × Turned (now after) (now prior) set ⌝ }
     ensures { λ r. ⌜ Component (ahead (now (after .entry))) k (Has set) (suc x) (Has r) ⌝ }
 {
-    let mut todo = sets::single32(x);
-    let mut left = sets::without32(set, todo);
+    let start = sets::single32(x);
+    let rest = sets::without32(set, start);
+    let first = hanging(after, prior, k, rest, x);
+    let mut left = sets::without32(rest, first);
+    let mut todo = pending(first, left);
     while todo != 0 {
         let i = sets::first32(todo);
         let fresh = hanging(after, prior, k, left, i);
