@@ -107,14 +107,12 @@ pub fn put_form(
     let sep = mark(k);
     let mut o = text::put_if(out, at, b'(', nested);
     let mut rest = set;
-    let mut more = false;
     while rest != 0 {
         let y = start(prior, k, rest);
         let c = component(after, prior, k, rest, y);
-        o = text::put_if(out, o, sep, more);
         o = put_form(out, o, after, prior, c, true);
         rest = sets::without32(rest, c);
-        more = true;
+        o = text::put_if(out, o, sep, rest != 0);
     }
     text::put_if(out, o, b')', nested)
 }
