@@ -1,16 +1,17 @@
 -- The loop that grows the part of a set that hangs together with a goal: `left` is what is not yet in it, `todo` what is in it and whose neighbours are
 -- not yet looked at.
 use mathlib.Core.Path.{_≡_, refl, sym, ap, ap₂, _∙_, subst, subst₂}
-use mathlib.Core.Bool.{Bool, true, false, not, _||_, cond, true≢false}
+use mathlib.Core.Bool.{Bool, true, false, not, _&&_, _||_, cond, true≢false}
 use mathlib.Core.List.{List}
 use mathlib.Core.Logic.{_⊎_, inl, inr, ⊎-elim}
 use Prim.Native.Nat.{ℕ, suc, _^_, _<_}
+use lib.Bits.{or-zero-l}
 use lib.Dec.{eqb}
 use lib.ListN.{getD}
 use borrow.Author.Tests.{eqb-true, eq-eqb, ne-eqb}
 use Rattle.logic.proofs.Bools.{and-l, and-r, and-i, or-elim, or-l, or-r, not-true, is-false}
-use Rattle.sets.specs.Sets.{union, meet, without, single, first, count}
-use Rattle.sets.proofs.Laws.{first-member}
+use Rattle.sets.specs.Sets.{has, union, meet, without, single, first, count}
+use Rattle.sets.proofs.Laws.{has-without, none-empty, first-member}
 use Rattle.sets.proofs.Members.{first-in}
 use Rattle.graph.specs.Graph.{hasGoal, ahead}
 use Rattle.graph.proofs.Goals.{goal-union, goal-meet, goal-without, goal-none, goal-single, single-goal, Part, part-lt, part-less}
@@ -31,6 +32,15 @@ without-i a b g h f = goal-without a b g ∙ and-i (hasGoal a g) (not (hasGoal b
 
 pub clash : {b : Bool} {A : Type 0} → b ≡ true → b ≡ false → A
 clash t f = absurd (true≢false (sym t ∙ f))
+
+-- a goal that is taken off leaves nothing
+union-none : (a b : ℕ) → union (without a a) b ≡ b
+union-none a b =
+    ap (λ (m : ℕ). union m b) (none-empty (without a a) (λ i. has-without a a i ∙ go (has a i))) ∙ or-zero-l b
+  where
+    go : (p : Bool) → p && not p ≡ false
+    go true = refl
+    go false = refl
 
 pub record Growing (after : List ℕ) (k : Bool) (set x left todo : ℕ) : Type 0 where
   pub left-in : (g : ℕ) → Has left g → Has set g
@@ -231,9 +241,16 @@ module _ (after prior : List ℕ) (k : Bool) (set : ℕ) (turned : Turned after 
         go true g h = clash h (goal-none g)
         go false g h = h
 
-    -- the same, as the loop finds it
-    pub grow-begin : Has set (suc x) → {left todo : ℕ} → todo ≡ single x → left ≡ without set todo → Growing after k set x left todo
-    grow-begin h t l = subst₂ (Growing after k set x) (sym (l ∙ ap (without set) t)) (sym t) (grow-start h)
+    -- the goal itself is looked at before the loop
+    pub grow-begin : Has set (suc x) → {one rest fresh left todo : ℕ} → one ≡ single x → rest ≡ without set one → fresh ≡ hanging after prior k rest x
+        → left ≡ without rest fresh → todo ≡ pending fresh left → Growing after k set x left todo
+    grow-begin h {one} {rest} {fresh} {left} {todo} eo er ef el et =
+        let r : without set (single x) ≡ rest = sym (er ∙ ap (without set) eo) in
+        let f : hanging after prior k (without set (single x)) x ≡ fresh = ap (λ (m : ℕ). hanging after prior k m x) r ∙ sym ef in
+        let a : without (without set (single x)) (hanging after prior k (without set (single x)) x) ≡ left = ap₂ without r f ∙ sym el in
+        let b : union (without (single x) (single x)) (hanging after prior k (without set (single x)) x) ≡ fresh
+        = union-none (single x) (hanging after prior k (without set (single x)) x) ∙ f in
+        subst (Growing after k set x left) (sym et) (grow-pending (subst₂ (Growing after k set x) a b (grow-on (grow-start h) x (goal-single x))))
 
     module _ {left todo : ℕ} (w : Growing after k set x left todo) (l : set < 2 ^ 32) (n : todo ≡ 0 → ⊥) where
       pub pick-under : first 32 todo < 32

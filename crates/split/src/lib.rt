@@ -40,8 +40,11 @@ fn component(after: &[u32; 32], prior: &[u32; 32], k: bool, set: u32, x: usize) 
     requires { ⌜ (x < 32) × Has set (suc x) × Turned (now after) (now prior) set ⌝ }
     ensures { λ r. ⌜ Component (ahead (now (after .entry))) k (Has set) (suc x) (Has r) ⌝ }
 {
-    let mut todo = sets::single32(x);
-    let mut left = sets::without32(set, todo);
+    let start = sets::single32(x);
+    let rest = sets::without32(set, start);
+    let first = hanging(after, prior, k, rest, x);
+    let mut left = sets::without32(rest, first);
+    let mut todo = pending(first, left);
     while todo != 0 {
         let i = sets::first32(todo);
         let fresh = hanging(after, prior, k, left, i);
@@ -104,14 +107,12 @@ pub fn put_form(
     let sep = mark(k);
     let mut o = text::put_if(out, at, b'(', nested);
     let mut rest = set;
-    let mut more = false;
     while rest != 0 {
         let y = start(prior, k, rest);
         let c = component(after, prior, k, rest, y);
-        o = text::put_if(out, o, sep, more);
         o = put_form(out, o, after, prior, c, true);
         rest = sets::without32(rest, c);
-        more = true;
+        o = text::put_if(out, o, sep, rest != 0);
     }
     text::put_if(out, o, b')', nested)
 }

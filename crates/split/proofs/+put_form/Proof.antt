@@ -3,7 +3,7 @@ use native.Mathlib.Omega.{arith}
 use mathlib.Core.Path.{_≡_, sym, ap, _∙_, subst}
 use Prim.Native.Nat.{suc, _+_, _^_}
 use lib.Dec.{eqb}
-use mathlib.Core.Bool.{false}
+use mathlib.Core.Bool.{false, not}
 use lib.ListN.{length, length-append}
 use Rattle.sets.specs.Sets.{count, first, single}
 use Rattle.text.specs.Text.{only}
@@ -47,10 +47,10 @@ abbrev put-form-K : ℕ → put-form-lts.Claims
 put-form-K t = (first32-reads.Asked, first32-reads.Learnt, single32-reads.Asked, single32-reads.Learnt, put-number-reads.Asked, put-number-reads.Learnt, component-reads.Asked, component-reads.Learnt, mark-reads.Asked, mark-reads.Learnt, put-if-reads.Asked, put-if-reads.Learnt, start-reads.Asked, start-reads.Learnt, put-form-below t, put-form.Post, without32-reads.Asked, without32-reads.Learnt)
 
 abbrev put-form-Inv-loop : put-form-lts.InvT-loop
-put-form-Inv-loop out₀ at after prior set nested x k sep o₀ rest₀ more₀ out o rest more = Going after k nested set o₀ out₀ rest more o out
+put-form-Inv-loop out₀ at after prior set nested x k sep o₀ rest₀ out o rest = Going after k nested set o₀ out₀ rest o out
 
 abbrev put-form-μ-loop : put-form-lts.MeasureT-loop
-put-form-μ-loop out₀ at after prior set nested x k sep o₀ rest₀ more₀ out o rest more = count rest
+put-form-μ-loop out₀ at after prior set nested x k sep o₀ rest₀ out o rest = count rest
 
 -- the lowest goal, less one
 under : (t : ℕ) (c : put-form-lts.After-first32 (put-form-K t) (put-form-at t) put-form.Post put-form-Inv-loop put-form-μ-loop) → c .first32 .result < 32
@@ -107,7 +107,7 @@ a-step : (t : ℕ) (c : put-form-lts.After-component2 (put-form-K t) (put-form-a
     let a = c .before .before .before .before .before .before .before .before .before .before .before .before .before .before .args in
     let l = c .before .before .before .loop in
     Step (a .after .now) (a .prior .now) (eqb (c .before .before .before .before .before .before .before .before .before .component .result) (a .set)) (a .nested) (a .set) (c .before .before .before .before .before .before .put-if .result) (c .before .before .before .before .before .before .put-if .last .0)
-    (l .rest) (l .more) (l .o) (l .out) (c .component2 .result)
+    (l .rest) (l .o) (l .out) (c .component2 .result)
 a-step t c =
     let s = c .before .before .before .before .before .before .before .before .before .before .before .before .before .before in
     let l : s .args .set < 2 ^ 32 = search needs in
@@ -165,29 +165,25 @@ put-form-start-requires t c κs = (ordered-behind _ _ (rest-ordered t c), rest-s
 put-form-component-requires-2 : (t : ℕ) → put-form-lts.Need-component-requires-2 (put-form-K t) (put-form-at t) put-form.Post put-form-Inv-loop put-form-μ-loop
 put-form-component-requires-2 t c κs = (c .start .ensures .0, c .start .ensures .1, rest-ordered t (c .before) .turned)
 
-put-form-put-if-requires-2 : (t : ℕ) → put-form-lts.Need-put-if-requires-2 (put-form-K t) (put-form-at t) put-form.Post put-form-Inv-loop put-form-μ-loop
-put-form-put-if-requires-2 t c κs = omega (arith, a-step t (c .before) .room, bound t (c .before .before .before .before .before))
-
 put-form-put-form-requires : (t : ℕ) → put-form-lts.Need-put-form-requires (put-form-K t) (put-form-at t) put-form.Post put-form-Inv-loop put-form-μ-loop
 put-form-put-form-requires t c κs =
-    let w = a-step t (c .before .before .before .before .before) in
-    let m = c .before .before .before .before .before .before .before .before .before .before .before .before .before .mark .ensures in
-    let p = c .before .before .before .put-if2 .ensures .place in (
-      omega (arith, w .fewer, c .before .before .before .before .before .before .before .before .before .before .before .before .before .before .before .before .before .before .before .pre .0),
-      (w .ordered, omega (arith, w .room, bound t (c .before .before .before .before .before .before .before .before .before), p, ap (λ (z : ℕ). length (only (c .before .before .before .before .before .before .before .before .loop .more) z)) m)),
-    )
+    let w = a-step t (c .before) in
+    (omega (arith, w .fewer, c .before .before .before .before .before .before .before .before .before .before .before .before .before .before .before .pre .0), (w .ordered, omega (arith, w .room, bound t (c .before .before .before .before .before))))
 
 put-form-without32-requires : (t : ℕ) → put-form-lts.Need-without32-requires (put-form-K t) (put-form-at t) put-form.Post put-form-Inv-loop put-form-μ-loop
 put-form-without32-requires t c κs = search needs
 
+put-form-put-if-requires-2 : (t : ℕ) → put-form-lts.Need-put-if-requires-2 (put-form-K t) (put-form-at t) put-form.Post put-form-Inv-loop put-form-μ-loop
+put-form-put-if-requires-2 t c κs = omega (arith, a-step t (c .before .before .before .before .before .before) .room, bound t (c .before .before .before .before .before .before .before .before .before .before), c .before .before .before .before .put-form .ensures .place)
+
 put-form-loop-less : (t : ℕ) → put-form-lts.Need-loop-less (put-form-K t) (put-form-at t) put-form.Post put-form-Inv-loop put-form-μ-loop
-put-form-loop-less t c = subst (λ (z : ℕ). count z < count (c .before .before .before .before .before .before .before .before .before .before .before .before .loop .rest)) (sym (c .without32 .ensures)) (a-step t (c .before .before .before .before .before .before .before .before .before) .less)
+put-form-loop-less t c = subst (λ (z : ℕ). count z < count (c .before .before .before .before .before .before .before .before .before .before .before .before .loop .rest)) (sym (c .before .before .before .before .without32 .ensures)) (a-step t (c .before .before .before .before .before .before .before .before .before) .less)
 
 put-form-loop-again : (t : ℕ) → put-form-lts.Need-loop-again (put-form-K t) (put-form-at t) put-form.Post put-form-Inv-loop put-form-μ-loop
 put-form-loop-again t c =
     let w = a-step t (c .before .before .before .before .before .before .before .before .before) in
     let m = c .before .before .before .before .before .before .before .before .before .before .before .before .before .before .before .before .before .mark .ensures in
-    w .on (recast (ap (only (c .before .before .before .before .before .before .before .before .before .before .before .before .loop .more)) m) (c .before .before .before .before .before .before .before .put-if2 .ensures)) (c .before .before .before .put-form .ensures) (c .without32 .ensures)
+    w .on (c .before .before .before .before .before .before .before .put-form .ensures) _ (c .before .before .before .before .without32 .ensures) (recast (ap (only (not (eqb (c .before .before .before .before .without32 .result) 0))) m) (c .before .before .put-if2 .ensures))
 
 put-form-put-if-requires-3 : (t : ℕ) → put-form-lts.Need-put-if-requires-3 (put-form-K t) (put-form-at t) put-form.Post put-form-Inv-loop put-form-μ-loop
 put-form-put-if-requires-3 t c κs = omega (arith, c .before .before .loop .inv .wrote .place, bound t (c .before .before .before))
@@ -221,9 +217,9 @@ pub +put-form-spec : {M : Type 1} → statement M
     (put-form-loop-holds t)
     (put-form-start-requires t)
     (put-form-component-requires-2 t)
-    (put-form-put-if-requires-2 t)
     (put-form-put-form-requires t)
     (put-form-without32-requires t)
+    (put-form-put-if-requires-2 t)
     (put-form-loop-less t)
     (put-form-loop-again t)
     (put-form-put-if-requires-3 t)

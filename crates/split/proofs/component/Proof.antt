@@ -15,21 +15,21 @@ use Rattle.split.proofs.hanging.Reads as hanging-reads
 use Rattle.split.proofs.pending.Reads as pending-reads
 
 abbrev Inv-loop : tie.InvT-loop
-Inv-loop after prior k set x todo₀ left₀ todo left = Growing after k set x left todo
+Inv-loop after prior k set x start rest first left₀ todo₀ left todo = Growing after k set x left todo
 
 abbrev μ-loop : tie.MeasureT-loop
-μ-loop after prior k set x todo₀ left₀ todo left = count (union left todo)
+μ-loop after prior k set x start rest first left₀ todo₀ left todo = count (union left todo)
 
-facts : (c : tie.After-pending Inv-loop μ-loop) →
-    let a = c .before .before .before .before .before .before .before .before .before .before .before .args in
+facts : (c : tie.After-pending2 Inv-loop μ-loop) →
+    let a = c .before .before .before .before .before .before .before .before .before .before .before .before .before .before .args in
     let l = c .before .before .before .before .before .before .before .before .loop in
-    Growing (a .after .now) (a .k) (a .set) (a .x) (c .before .before .before .before .without322 .result) (c .pending .result)
-    × (count (union (c .before .before .before .before .without322 .result) (c .pending .result)) < count (union (l .left) (l .todo)))
+    Growing (a .after .now) (a .k) (a .set) (a .x) (c .before .before .before .before .without323 .result) (c .pending2 .result)
+    × (count (union (c .before .before .before .before .without323 .result) (c .pending2 .result)) < count (union (l .left) (l .todo)))
 facts c =
-    let s = c .before .before .before .before .before .before .before .before .before .before .before in
+    let s = c .before .before .before .before .before .before .before .before .before .before .before .before .before .before in
     let l : s .args .set < 2 ^ 32 = search needs in
-    grow-step _ _ _ _ (s .pre .2) _ (c .before .before .before .before .before .before .before .before .loop .inv) l (c .before .before .before .before .before .before .before .loop-test .taken) (c .before .before .before .before .before .before .first32 .ensures) (c .before .before .before .before .before .hanging .ensures) (c .before .before .before .before .without322 .ensures)
-    (c .before .before .before .single322 .ensures) (c .before .before .without323 .ensures) (c .before .union32 .ensures) (c .pending .ensures)
+    grow-step _ _ _ _ (s .pre .2) _ (c .before .before .before .before .before .before .before .before .loop .inv) l (c .before .before .before .before .before .before .before .loop-test .taken) (c .before .before .before .before .before .before .first32 .ensures) (c .before .before .before .before .before .hanging2 .ensures) (c .before .before .before .before .without323 .ensures)
+    (c .before .before .before .single322 .ensures) (c .before .before .without324 .ensures) (c .before .union32 .ensures) (c .pending2 .ensures)
 
 single32-requires : tie.Need-single32-requires Inv-loop μ-loop
 single32-requires c κs = search needs
@@ -37,35 +37,46 @@ single32-requires c κs = search needs
 without32-requires : tie.Need-without32-requires Inv-loop μ-loop
 without32-requires c κs = search needs
 
-loop-holds : tie.Need-loop-holds Inv-loop μ-loop
-loop-holds c = grow-begin _ _ _ _ (c .before .before .pre .2) _ (c .before .before .pre .1) (c .before .single32 .ensures) (c .without32 .ensures)
-
-first32-requires : tie.Need-first32-requires Inv-loop μ-loop
-first32-requires c κs = search needs
-
 hanging-requires : tie.Need-hanging-requires Inv-loop μ-loop
-hanging-requires c κs =
-    let s = c .before .before .before .before .before in
-    let l : s .args .set < 2 ^ 32 = search needs in
-    omega (arith, c .first32 .ensures, pick-under _ _ _ _ (s .pre .2) _ (c .before .before .loop .inv) l (c .before .loop-test .taken))
+hanging-requires c κs = search needs
 
 without32-requires-2 : tie.Need-without32-requires-2 Inv-loop μ-loop
 without32-requires-2 c κs = search needs
 
-single32-requires-2 : tie.Need-single32-requires-2 Inv-loop μ-loop
-single32-requires-2 c κs =
-    let s = c .before .before .before .before .before .before .before in
+pending-requires : tie.Need-pending-requires Inv-loop μ-loop
+pending-requires c κs = search needs
+
+loop-holds : tie.Need-loop-holds Inv-loop μ-loop
+loop-holds c =
+    let s = c .before .before .before .before .before in
+    grow-begin _ _ _ _ (s .pre .2) _ (s .pre .1) (c .before .before .before .before .single32 .ensures) (c .before .before .before .without32 .ensures) (c .before .before .hanging .ensures) (c .before .without322 .ensures) (c .pending .ensures)
+
+first32-requires : tie.Need-first32-requires Inv-loop μ-loop
+first32-requires c κs = search needs
+
+hanging-requires-2 : tie.Need-hanging-requires-2 Inv-loop μ-loop
+hanging-requires-2 c κs =
+    let s = c .before .before .before .before .before .before .before .before in
     let l : s .args .set < 2 ^ 32 = search needs in
-    omega (arith, c .before .before .first32 .ensures, pick-under _ _ _ _ (s .pre .2) _ (c .before .before .before .before .loop .inv) l (c .before .before .before .loop-test .taken))
+    omega (arith, c .first32 .ensures, pick-under _ _ _ _ (s .pre .2) _ (c .before .before .loop .inv) l (c .before .loop-test .taken))
 
 without32-requires-3 : tie.Need-without32-requires-3 Inv-loop μ-loop
 without32-requires-3 c κs = search needs
 
+single32-requires-2 : tie.Need-single32-requires-2 Inv-loop μ-loop
+single32-requires-2 c κs =
+    let s = c .before .before .before .before .before .before .before .before .before .before in
+    let l : s .args .set < 2 ^ 32 = search needs in
+    omega (arith, c .before .before .first32 .ensures, pick-under _ _ _ _ (s .pre .2) _ (c .before .before .before .before .loop .inv) l (c .before .before .before .loop-test .taken))
+
+without32-requires-4 : tie.Need-without32-requires-4 Inv-loop μ-loop
+without32-requires-4 c κs = search needs
+
 union32-requires : tie.Need-union32-requires Inv-loop μ-loop
 union32-requires c κs = search needs
 
-pending-requires : tie.Need-pending-requires Inv-loop μ-loop
-pending-requires c κs = search needs
+pending-requires-2 : tie.Need-pending-requires-2 Inv-loop μ-loop
+pending-requires-2 c κs = search needs
 
 loop-less : tie.Need-loop-less Inv-loop μ-loop
 loop-less c = facts c .1
@@ -73,11 +84,13 @@ loop-less c = facts c .1
 loop-again : tie.Need-loop-again Inv-loop μ-loop
 loop-again c = facts c .0
 
-without32-requires-4 : tie.Need-without32-requires-4 Inv-loop μ-loop
-without32-requires-4 c κs = search needs
+without32-requires-5 : tie.Need-without32-requires-5 Inv-loop μ-loop
+without32-requires-5 c κs = search needs
 
 returns : tie.Need-returns Inv-loop μ-loop
-returns c = grow-done _ _ _ _ (c .before .before .before .before .before .pre .2) _ (c .before .before .before .before .before .pre .1) (c .before .before .loop .inv) (c .before .loop-test .left) (c .without324 .ensures)
+returns c =
+    let s = c .before .before .before .before .before .before .before .before in
+    grow-done _ _ _ _ (s .pre .2) _ (s .pre .1) (c .before .before .loop .inv) (c .before .loop-test .left) (c .without325 .ensures)
 
 pub component-spec : {M : Type 1} → statement M
 component-spec =
@@ -87,15 +100,18 @@ component-spec =
     μ-loop
     single32-requires
     without32-requires
-    loop-holds
-    first32-requires
     hanging-requires
     without32-requires-2
-    single32-requires-2
-    without32-requires-3
-    union32-requires
     pending-requires
+    loop-holds
+    first32-requires
+    hanging-requires-2
+    without32-requires-3
+    single32-requires-2
+    without32-requires-4
+    union32-requires
+    pending-requires-2
     loop-less
     loop-again
-    without32-requires-4
+    without32-requires-5
     returns)
