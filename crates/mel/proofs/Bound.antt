@@ -19,8 +19,8 @@ use Rattle.stages.specs.Masks.{given, once, twice, goalWith, candidates, partne
 use Rattle.stages.proofs.Words.{occurs-out, occurs-in, shared-out}
 use Rattle.stages.proofs.Masks.{has-once, has-twice}
 use Rattle.stages.proofs.Stages.{by-stages, start-falls}
-use Rattle.mel.specs.Texts.{pairsOf, checksText, stageText, stagesText, melText}
-use Rattle.mel.proofs.Whole.{gset, kset, checks-masks, stages-one, stages-more, stage-parts, stage-one}
+use Rattle.mel.specs.Texts.{groundSet, pairSet, pairsOf, checksText, stageText, stagesText, melText}
+use Rattle.mel.proofs.Whole.{checks-masks, stages-one, stages-more, stage-parts, stage-one}
 use Rattle.mel.proofs.Length.{same-or, checks-length, goals-bound, arrow-length, none-text, mel-text}
 
 -- a set has no more members than one that holds them all, and no more than the width
@@ -74,10 +74,10 @@ module _ (head : ℕ) (sets grounds rows : List ℕ) (n : ℕ) where
       let s = shared-out sets p q x (sym (has-twice sets p q x) ∙ e) in
       has-once sets 0 n x ∙ occurs-in sets 0 n x (s .t) (omega (arith, s .order)) (omega (arith, s .upto, h)) (s .in-t)
 
-  gset-in : (p q x : ℕ) → q ≤ n → has (gset head sets grounds rows p q) x ≡ true → has vars x ≡ true
+  gset-in : (p q x : ℕ) → q ≤ n → has (groundSet sets grounds p q) x ≡ true → has vars x ≡ true
   gset-in p q x h e = twice-in p q x h (left-of (twice sets p q) (goal grounds (p + 1)) x e)
 
-  kset-in : (p q x : ℕ) → q ≤ n → has (kset head sets grounds rows p q) x ≡ true → has vars x ≡ true
+  kset-in : (p q x : ℕ) → q ≤ n → has (pairSet head sets grounds p q) x ≡ true → has vars x ≡ true
   unfolding candidates
   kset-in p q x h e =
       let met = union head (once sets 0 p) in
@@ -100,19 +100,19 @@ module _ (head : ℕ) (sets grounds rows : List ℕ) (n : ℕ) where
 
   checks-count : (p q : ℕ) → q ≤ n → length (checks (given head sets grounds rows) p q) ≤ v + v * v
   checks-count p q h =
-      let g = members 64 (gset head sets grounds rows p q) in
-      let k = kset head sets grounds rows p q in
+      let g = members 64 (groundSet sets grounds p q) in
+      let k = pairSet head sets grounds p q in
       omega (
         arith,
         ap length (checks-masks head sets grounds rows p q),
         length-append (map Ground g) (pairsOf sets rows p q k (members 64 k)),
         length-map g Ground,
-        members-le 64 0 (gset head sets grounds rows p q) vars (λ x e. gset-in p q x h e),
+        members-le 64 0 (groundSet sets grounds p q) vars (λ x e. gset-in p q x h e),
         pairs-count p q k (λ y e. kset-in p q y h e) (members 64 k),
         mul-le-mul-right v (members-le 64 0 k vars (λ x e. kset-in p q x h e)),
       )
 
-  checks-most : (p q : ℕ) → q ≤ n → length (checksText head sets grounds rows p q) ≤ 15 * (v + v * v)
+  checks-most : (p q : ℕ) → q ≤ n → length (checksText head sets grounds rows false p q) ≤ 15 * (v + v * v)
   unfolding checksText
   checks-most p q h = omega (arith, checks-length false (checks (given head sets grounds rows) p q), checks-count p q h)
 
@@ -120,7 +120,7 @@ module _ (head : ℕ) (sets grounds rows : List ℕ) (n : ℕ) where
   stage-most p q h =
       ⊎-elim
       (λ e. omega (arith, ap length (stage-one head sets grounds rows p q e), decimal-length q))
-      (λ d. omega (arith, simp length-append at (ap length (stage-parts head sets grounds rows p q d)), checks-most p q h, goals-bound head sets grounds rows p q, arrow-length (some (checksText head sets grounds rows p q))))
+      (λ d. omega (arith, simp length-append at (ap length (stage-parts head sets grounds rows p q d)), checks-most p q h, goals-bound head sets grounds rows p q, arrow-length (some (checksText head sets grounds rows false p q))))
       (same-or q (p + 1))
 
   stages-most : (q : ℕ) → q ≤ n → length (stagesText head sets grounds rows q) ≤ q * (15 * (v + v * v)) + 8 * q

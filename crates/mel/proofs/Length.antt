@@ -14,7 +14,7 @@ use Rattle.stages.specs.Mel as W
 use Rattle.stages.specs.Mel.{Clause, Check, Ground, Indep, checkText, checksFrom, arrowIf, goalsFrom, goalsText, checks, start, thoseFrom, indepsFrom, indepCheck, groundCheck}
 use Rattle.stages.specs.Masks.{given}
 use Rattle.stages.proofs.Stages.{start-falls, stages-none, by-stages}
-use Rattle.mel.specs.Texts.{checksText, stageText, stagesText, melText}
+use Rattle.mel.specs.Texts.{item, checksText, stageText, stagesText, melText}
 use Rattle.mel.proofs.Lists.{checks-step, checks-none, ground-length, indep-length}
 use Rattle.mel.proofs.Whole.{stages-one, stages-more, stage-parts, stage-one}
 
@@ -25,9 +25,13 @@ same-or a b = go (eqb a b) refl
     go true e = inl (eqb-true a b e)
     go false e = inr (eqb-false a b e)
 
+item-length : (c : Check) → length (item c) ≤ 15
+item-length (Ground x) = omega (arith, ground-length x, decimal-length x)
+item-length (Indep x y) = omega (arith, indep-length x y, decimal-length x, decimal-length y)
+
 check-length : (c : Check) → length (checkText c) ≤ 14
-check-length (Ground x) = omega (arith, ground-length x, decimal-length x)
-check-length (Indep x y) = omega (arith, indep-length x y, decimal-length x, decimal-length y)
+unfolding item
+check-length c = omega (arith, item-length c)
 
 pub checks-length : (more : Bool) (l : List Check) → length (checksFrom more l) ≤ 15 * length l
 checks-length more [] = omega (arith, ap length (checks-none more))
@@ -68,7 +72,7 @@ arrow-length true = omega arith
 arrow-length false = omega arith
 
 module _ (head : ℕ) (sets grounds rows : List ℕ) where
-  checks-bound : (p q : ℕ) → length (checksText head sets grounds rows p q) ≤ 62400
+  checks-bound : (p q : ℕ) → length (checksText head sets grounds rows false p q) ≤ 62400
   unfolding checksText given
   checks-bound p q = omega (arith, checks-length false (checks (given head sets grounds rows) p q), checks-count (given head sets grounds rows) (omega arith) p q)
 
@@ -80,7 +84,7 @@ module _ (head : ℕ) (sets grounds rows : List ℕ) where
   stage-bound p q h =
       ⊎-elim
       (λ e. omega (arith, ap length (stage-one head sets grounds rows p q e), decimal-length q))
-      (λ n. omega (arith, h, simp length-append at (ap length (stage-parts head sets grounds rows p q n)), checks-bound p q, goals-bound p q, arrow-length (some (checksText head sets grounds rows p q))))
+      (λ n. omega (arith, h, simp length-append at (ap length (stage-parts head sets grounds rows p q n)), checks-bound p q, goals-bound p q, arrow-length (some (checksText head sets grounds rows false p q))))
       (same-or q (p + 1))
 
   pub none-text : length (stagesText head sets grounds rows 0) ≤ 0

@@ -1,21 +1,22 @@
 -- Laws of the texts that the writers write.
 use mathlib.Core.Path.{_≡_, refl, sym, ap, _∙_}
-use mathlib.Core.Bool.{Bool, true, false, _||_, or-false}
+use mathlib.Core.Bool.{Bool, true, false}
 use mathlib.Core.List.{List, [], _∷_, _++_, map, append-assoc}
-use Prim.Native.Nat.{ℕ, suc, _+_, _-_, _≤_, _<_, _^_, suc-le-suc}
+use Prim.Native.Nat.{ℕ, suc, _+_, _-_, _≤_, _<_, _^_, max, suc-le-suc}
 use native.Mathlib.Nat.{le-refl}
 use native.Mathlib.Numerals.{add-one}
 use native.Mathlib.Omega.{arith}
 use lib.Dec.{ltb}
 use lib.ListN.{length, length-append}
+use lib.Seq.{sets}
 use borrow.Author.Tests.{lt-ltb, le-ltb}
 use Rattle.sets.specs.Sets.{without, single, first, members}
 use Rattle.sets.proofs.Members.{members-step, members-none}
-use Rattle.text.specs.Text.{decimal, joinFrom, some, only}
-use Rattle.text.proofs.Laws.{join-step, join-none}
+use Rattle.text.specs.Text.{Wrote, decimal, joinFrom, some, only}
+use Rattle.text.proofs.Laws.{join-step, join-none, recast, over}
 use Rattle.stages.specs.Mel.{Check, Ground, Indep, goal, goalsFrom, checkText, checksFrom, arrowIf, goalsText}
 use Rattle.stages.specs.Masks.{partners}
-use Rattle.mel.specs.Texts.{groundsText, rowText, pairsOf, pairsText}
+use Rattle.mel.specs.Texts.{item, groundsText, rowText, pairsOf, pairsText}
 
 -- ---- checks, one after the other
 
@@ -27,74 +28,111 @@ pub checks-none : (more : Bool) → checksFrom more [] ≡ []
 unfolding checksFrom
 checks-none more = join-none more 44
 
-some-check : (more : Bool) (c : Check) (t : List ℕ) → more || some (only more 44 ++ checkText c ++ t) ≡ true
-unfolding some only checkText
-some-check true c t = refl
-some-check false (Ground x) t = refl
-some-check false (Indep x y) t = refl
+-- a check with the comma before it
+pub item-step : (c : Check) (l : List Check) → checksFrom true (c ∷ l) ≡ item c ++ checksFrom true l
+unfolding item only
+item-step c l = checks-step true c l
 
-pub checks-append : (more : Bool) (a b : List Check) → checksFrom more (a ++ b) ≡ checksFrom more a ++ checksFrom (more || some (checksFrom more a)) b
-checks-append more [] b = rw (checks-none more) (ap (λ (m : Bool). checksFrom m b) (sym (unfold some in or-false more)))
-checks-append more (c ∷ a) b =
-    checks-step more c (a ++ b)
-    ∙ ap (λ (t : List ℕ). only more 44 ++ checkText c ++ t) (checks-append true a b)
-    ∙ sym (append-assoc (only more 44 ++ checkText c) (checksFrom true a) (checksFrom true b))
-    ∙ ap (λ (m : Bool). (only more 44 ++ checkText c ++ checksFrom true a) ++ checksFrom m b) (sym (some-check more c (checksFrom true a)))
-    ∙ ap (λ (t : List ℕ). t ++ checksFrom (more || some t) b) (sym (checks-step more c a))
+pub checks-append : (a b : List Check) → checksFrom true (a ++ b) ≡ checksFrom true a ++ checksFrom true b
+checks-append [] b = rw (checks-none true)
+checks-append (c ∷ a) b =
+    item-step c (a ++ b)
+    ∙ ap (λ (t : List ℕ). item c ++ t) (checks-append a b)
+    ∙ sym (append-assoc (item c) (checksFrom true a) (checksFrom true b))
+    ∙ ap (λ (t : List ℕ). t ++ checksFrom true b) (sym (item-step c a))
+
+-- the comma before the first
+comma : (c : Check) (l : List Check) → checksFrom true (c ∷ l) ≡ 44 ∷ checksFrom false (c ∷ l)
+unfolding only
+comma c l = checks-step true c l ∙ ap (λ (t : List ℕ). 44 ∷ t) (sym (checks-step false c l))
+
+some-text : (c : Check) (t : List ℕ) → some (only false 44 ++ checkText c ++ t) ≡ true
+unfolding some only checkText
+some-text (Ground x) t = refl
+some-text (Indep x y) t = refl
+
+some-check : (c : Check) (l : List Check) → some (checksFrom false (c ∷ l)) ≡ true
+some-check c l = ap some (checks-step false c l) ∙ some-text c (checksFrom true l)
+
+-- the parenthesis in its place, or alone
+pub opened : (l : List Check) {at c e : ℕ} {old n o : List ℕ} → Wrote (checksFrom true l) at old c n → Wrote (40 ∷ []) at n e o
+    → Wrote ((40 ∷ []) ++ checksFrom false l) at old (max e c) o
+opened [] {at} {c} {e} {old} {n} {o} w v =
+    let u : Wrote [] at old c n = recast (checks-none true) w in
+    recast (ap (λ (t : List ℕ). (40 ∷ []) ++ t) (sym (checks-none false)))
+    (record { place = omega (arith, u .place, v .place); bytes = v .bytes ∙ ap (λ (k : List ℕ). sets k at (40 ∷ [])) (u .bytes) })
+opened (x ∷ l) {at} {c} {e} {old} {n} {o} w v =
+    let u : Wrote (44 ∷ checksFrom false (x ∷ l)) at old c n = recast (comma x l) w in
+    record { place = omega (arith, u .place, v .place); bytes = over u v .bytes }
+
+pub some-checks : (l : List Check) → some (checksFrom true l) ≡ some (checksFrom false l)
+some-checks [] = ap some (checks-none true ∙ sym (checks-none false))
+some-checks (c ∷ l) = unfold some in (ap some (comma c l) ∙ sym (some-check c l))
+
+-- the checks with the arrow behind them, where there are none and where there are some
+pub around-none : (l : List Check) → length (checksFrom true l) ≡ 0 → length (checksFrom false l) + length (arrowIf (some (checksFrom false l))) ≡ 0
+around-none [] h = rw (checks-none false) (unfold some arrowIf in refl)
+around-none (c ∷ l) h = absurd (omega (arith, ap length (comma c l)))
+
+pub around-some : (l : List Check) → (length (checksFrom true l) ≡ 0 → ⊥)
+    → length (checksFrom false l) + length (arrowIf (some (checksFrom false l))) ≡ length (checksFrom true l) + 1
+around-some [] h = absurd (h (ap length (checks-none true)))
+around-some (c ∷ l) h =
+    let a : length (arrowIf (some (checksFrom false (c ∷ l)))) ≡ 2 = rw (some-check c l) (unfold arrowIf in refl) in
+    omega (arith, a, ap length (comma c l))
 
 -- ---- the steps of the loops
 
-pub grounds-step : (more : Bool) (rest : ℕ) → rest < 2 ^ 64 → (rest ≡ 0 → ⊥)
-    → groundsText more rest ≡ only more 44 ++ checkText (Ground (first 64 rest)) ++ groundsText true (without rest (single (first 64 rest)))
+pub grounds-step : (rest : ℕ) → rest < 2 ^ 64 → (rest ≡ 0 → ⊥)
+    → groundsText rest ≡ item (Ground (first 64 rest)) ++ groundsText (without rest (single (first 64 rest)))
 unfolding groundsText
-grounds-step more rest h n =
-    ap (λ (l : List ℕ). checksFrom more (map Ground l)) (members-step 64 rest h n)
-    ∙ checks-step more (Ground (first 64 rest)) (map Ground (members 64 (without rest (single (first 64 rest)))))
+grounds-step rest h n =
+    ap (λ (l : List ℕ). checksFrom true (map Ground l)) (members-step 64 rest h n)
+    ∙ item-step (Ground (first 64 rest)) (map Ground (members 64 (without rest (single (first 64 rest)))))
 
-pub grounds-end : (more : Bool) (rest : ℕ) → rest ≡ 0 → groundsText more rest ≡ []
+pub grounds-end : (rest : ℕ) → rest ≡ 0 → groundsText rest ≡ []
 unfolding groundsText
-grounds-end more rest e = rw (e, members-none 64) (checks-none more)
+grounds-end rest e = rw (e, members-none 64) (checks-none true)
 
-pub row-step : (more : Bool) (x rest : ℕ) → rest < 2 ^ 64 → (rest ≡ 0 → ⊥)
-    → rowText more x rest ≡ only more 44 ++ checkText (Indep x (first 64 rest)) ++ rowText true x (without rest (single (first 64 rest)))
+pub row-step : (x rest : ℕ) → rest < 2 ^ 64 → (rest ≡ 0 → ⊥)
+    → rowText x rest ≡ item (Indep x (first 64 rest)) ++ rowText x (without rest (single (first 64 rest)))
 unfolding rowText
-row-step more x rest h n =
-    ap (λ (l : List ℕ). checksFrom more (map (Indep x) l)) (members-step 64 rest h n)
-    ∙ checks-step more (Indep x (first 64 rest)) (map (Indep x) (members 64 (without rest (single (first 64 rest)))))
+row-step x rest h n =
+    ap (λ (l : List ℕ). checksFrom true (map (Indep x) l)) (members-step 64 rest h n)
+    ∙ item-step (Indep x (first 64 rest)) (map (Indep x) (members 64 (without rest (single (first 64 rest)))))
 
-pub row-end : (more : Bool) (x rest : ℕ) → rest ≡ 0 → rowText more x rest ≡ []
+pub row-end : (x rest : ℕ) → rest ≡ 0 → rowText x rest ≡ []
 unfolding rowText
-row-end more x rest e = rw (e, members-none 64) (checks-none more)
+row-end x rest e = rw (e, members-none 64) (checks-none true)
 
 module _ (sets rows : List ℕ) (p q k : ℕ) where
-  pub pairs-step : (more : Bool) (rest : ℕ) → rest < 2 ^ 64 → (rest ≡ 0 → ⊥) →
+  pub pairs-step : (rest : ℕ) → rest < 2 ^ 64 → (rest ≡ 0 → ⊥) →
       let x = first 64 rest in
-      let t = rowText more x (partners sets p q k (goal rows (x + 1)) x) in
-      pairsText more sets rows p q k rest ≡ t ++ pairsText (more || some t) sets rows p q k (without rest (single x))
+      pairsText sets rows p q k rest ≡ rowText x (partners sets p q k (goal rows (x + 1)) x) ++ pairsText sets rows p q k (without rest (single x))
   unfolding pairsText rowText pairsOf
-  pairs-step more rest h n =
+  pairs-step rest h n =
       let x = first 64 rest in
-      ap (λ (l : List ℕ). checksFrom more (pairsOf sets rows p q k l)) (members-step 64 rest h n)
-      ∙ checks-append more (map (Indep x) (members 64 (partners sets p q k (goal rows (x + 1)) x))) (pairsOf sets rows p q k (members 64 (without rest (single x))))
+      ap (λ (l : List ℕ). checksFrom true (pairsOf sets rows p q k l)) (members-step 64 rest h n)
+      ∙ checks-append (map (Indep x) (members 64 (partners sets p q k (goal rows (x + 1)) x))) (pairsOf sets rows p q k (members 64 (without rest (single x))))
 
-  pub pairs-end : (more : Bool) (rest : ℕ) → rest ≡ 0 → pairsText more sets rows p q k rest ≡ []
+  pub pairs-end : (rest : ℕ) → rest ≡ 0 → pairsText sets rows p q k rest ≡ []
   unfolding pairsText pairsOf
-  pairs-end more rest e = rw (e, members-none 64) (checks-none more)
+  pairs-end rest e = rw (e, members-none 64) (checks-none true)
 
 -- ---- the parts of a check, as the code writes them
 
-pub ground-parts : (x : ℕ) → (103 ∷ 114 ∷ 111 ∷ 117 ∷ 110 ∷ 100 ∷ 40 ∷ 118 ∷ []) ++ decimal x ++ (41 ∷ []) ≡ checkText (Ground x)
-unfolding checkText
+pub ground-parts : (x : ℕ) → (44 ∷ 103 ∷ 114 ∷ 111 ∷ 117 ∷ 110 ∷ 100 ∷ 40 ∷ 118 ∷ []) ++ decimal x ++ (41 ∷ []) ≡ item (Ground x)
+unfolding item checkText
 ground-parts x = refl
 
-pub ground-length : (x : ℕ) → length (checkText (Ground x)) ≡ 9 + length (decimal x)
+pub ground-length : (x : ℕ) → length (item (Ground x)) ≡ 10 + length (decimal x)
 ground-length x = omega (arith, simp length-append at (ap length (ground-parts x)))
 
-pub indep-parts : (a b : ℕ) → (105 ∷ 110 ∷ 100 ∷ 101 ∷ 112 ∷ 40 ∷ 118 ∷ []) ++ decimal a ++ (44 ∷ 118 ∷ []) ++ decimal b ++ (41 ∷ []) ≡ checkText (Indep a b)
-unfolding checkText
+pub indep-parts : (a b : ℕ) → (44 ∷ 105 ∷ 110 ∷ 100 ∷ 101 ∷ 112 ∷ 40 ∷ 118 ∷ []) ++ decimal a ++ (44 ∷ 118 ∷ []) ++ decimal b ++ (41 ∷ []) ≡ item (Indep a b)
+unfolding item checkText
 indep-parts a b = refl
 
-pub indep-length : (a b : ℕ) → length (checkText (Indep a b)) ≡ 10 + length (decimal a) + length (decimal b)
+pub indep-length : (a b : ℕ) → length (item (Indep a b)) ≡ 11 + length (decimal a) + length (decimal b)
 indep-length a b = omega (arith, simp length-append at (ap length (indep-parts a b)))
 
 pub arrow-on : (on : Bool) → on ≡ true → 61 ∷ 62 ∷ [] ≡ arrowIf on

@@ -2,27 +2,27 @@
 use mathlib.Core.Path.{_≡_, refl, sym, ap, ap₂, _∙_}
 use mathlib.Core.Bool.{Bool, true, false, _&&_, cond}
 use mathlib.Core.List.{List, [], _∷_, _++_, map, append-assoc, append-nil, map-append}
-use Prim.Native.Nat.{ℕ, zero, suc, _+_, _<_}
+use Prim.Native.Nat.{ℕ, zero, suc, _+_, _<_, max}
 use native.Mathlib.Omega.{arith}
 use borrow.Author.Tests.{eq-eqb, ne-eqb}
-use Rattle.sets.specs.Sets.{has, union, without, membersFrom, members}
-use Rattle.text.specs.Text.{pickBool, someTexts, decimal, joinFrom, some, only}
+use Rattle.sets.specs.Sets.{has, membersFrom, members}
+use Rattle.text.specs.Text.{Wrote, pickBool, someTexts, decimal, joinFrom, some, only}
 use Rattle.text.proofs.Laws.{join-step, join-none, join-append}
 use Rattle.stages.specs.Mel as W
 use Rattle.stages.specs.Mel.{Clause, Stage, Check, Ground, Indep, goal, checksFrom, arrowIf, goalsText, checks, start, stages, thoseFrom, indepsFrom, indepCheck}
-use Rattle.stages.specs.Masks.{given, once, twice, candidates, partners}
+use Rattle.stages.specs.Masks.{given, partners}
 use Rattle.stages.proofs.Pairs.{those-members, those-none, grounds-mask, indep-masks}
 use Rattle.stages.proofs.Stages.{stages-none, stages-last}
-use Rattle.mel.specs.Texts.{groundsText, pairsOf, pairsText, checksText, stageText, stagesText}
-use Rattle.mel.proofs.Lists.{checks-append}
+use Rattle.mel.specs.Texts.{groundSet, pairSet, groundsText, pairsOf, pairsText, checksText, stageText, stagesText}
+use Rattle.mel.proofs.Lists.{checks-append, opened, some-checks}
 
 module _ (head : ℕ) (sets grounds rows : List ℕ) where
   module _ (p q : ℕ) where
-    abbrev pub gset : ℕ
-    gset = without (twice sets p q) (goal grounds (p + 1))
+    abbrev gset : ℕ
+    gset = groundSet sets grounds p q
 
-    abbrev pub kset : ℕ
-    kset = candidates (once sets p q) (twice sets p q) (union head (once sets 0 p)) (goal grounds (p + 1))
+    abbrev kset : ℕ
+    kset = pairSet head sets grounds p q
 
     pairs-masks : (k x : ℕ) → indepsFrom (given head sets grounds rows) k x p q ≡ pairsOf sets rows p q kset (membersFrom k x kset)
     unfolding given indepsFrom membersFrom pairsOf
@@ -52,16 +52,26 @@ module _ (head : ℕ) (sets grounds rows : List ℕ) where
     checks-masks = ap₂ (λ (a : List ℕ) (b : List Check). map Ground a ++ b) (grounds-mask (given head sets grounds rows) p q) (pairs-masks 64 0)
 
     -- the ground checks, and then the independence checks
-    pub checks-parts : groundsText false gset ++ pairsText (some (groundsText false gset)) sets rows p q kset kset ≡ checksText head sets grounds rows p q
+    pub checks-parts : groundsText gset ++ pairsText sets rows p q kset kset ≡ checksText head sets grounds rows true p q
     unfolding groundsText pairsText checksText
-    checks-parts = sym (ap (checksFrom false) checks-masks ∙ checks-append false (map Ground (members 64 gset)) (pairsOf sets rows p q kset (members 64 kset)))
+    checks-parts = sym (ap (checksFrom true) checks-masks ∙ checks-append (map Ground (members 64 gset)) (pairsOf sets rows p q kset (members 64 kset)))
+
+    -- the parenthesis in the place of the first comma, or alone
+    pub checks-opened : {at c e : ℕ} {old n o : List ℕ} → Wrote (checksText head sets grounds rows true p q) at old c n → Wrote (40 ∷ []) at n e o
+        → Wrote ((40 ∷ []) ++ checksText head sets grounds rows false p q) at old (max e c) o
+    unfolding checksText
+    checks-opened w v = opened (checks (given head sets grounds rows) p q) w v
+
+    pub checks-some : some (checksText head sets grounds rows true p q) ≡ some (checksText head sets grounds rows false p q)
+    unfolding checksText
+    checks-some = some-checks (checks (given head sets grounds rows) p q)
 
     pub stage-one : q ≡ p + 1 → decimal q ≡ stageText head sets grounds rows p q
     unfolding stageText W.stageText
     stage-one e = rw (eq-eqb q (p + 1) e)
 
     pub stage-parts : (q ≡ p + 1 → ⊥) →
-        (40 ∷ []) ++ checksText head sets grounds rows p q ++ arrowIf (some (checksText head sets grounds rows p q)) ++ goalsText p q ++ (41 ∷ []) ≡ stageText head sets grounds rows p q
+        (40 ∷ []) ++ checksText head sets grounds rows false p q ++ arrowIf (some (checksText head sets grounds rows false p q)) ++ goalsText p q ++ (41 ∷ []) ≡ stageText head sets grounds rows p q
     unfolding stageText W.stageText checksText
     stage-parts n = rw (ne-eqb q (p + 1) n)
 

@@ -1,31 +1,50 @@
 -- The texts that the writers write, by masks.
-use mathlib.Core.Bool.{Bool, false}
+use mathlib.Core.Bool.{Bool, true}
 use mathlib.Core.List.{List, [], _∷_, _++_, map}
 use Prim.Native.Nat.{ℕ, _+_}
-use Rattle.sets.specs.Sets.{members}
+use lib.ListN.{length}
+use Rattle.sets.specs.Sets.{union, without, members}
+use Rattle.text.specs.Text.{decimal}
 use Rattle.stages.specs.Mel as W
-use Rattle.stages.specs.Mel.{Check, Ground, Indep, goal, checksFrom, checks}
-use Rattle.stages.specs.Masks.{given, partners}
+use Rattle.stages.specs.Mel.{Check, Ground, Indep, goal, checkText, checksFrom, checks}
+use Rattle.stages.specs.Masks.{given, once, twice, candidates, partners}
 
-unfoldable pub groundsText : Bool → ℕ → List ℕ
-groundsText more set = checksFrom more (map Ground (members 64 set))
+-- the variables of the ground checks of the stage p+1 to q, and those that its independence checks are made of
+abbrev pub groundSet : List ℕ → List ℕ → ℕ → ℕ → ℕ
+groundSet sets grounds p q = without (twice sets p q) (goal grounds (p + 1))
+
+abbrev pub pairSet : ℕ → List ℕ → List ℕ → ℕ → ℕ → ℕ
+pairSet head sets grounds p q = candidates (once sets p q) (twice sets p q) (union head (once sets 0 p)) (goal grounds (p + 1))
+
+-- A check with a comma before it, as the checks below are written: the first comma of a stage gives way to its parenthesis.
+unfoldable pub item : Check → List ℕ
+item c = (44 ∷ []) ++ checkText c
+
+unfoldable pub groundsText : ℕ → List ℕ
+groundsText set = checksFrom true (map Ground (members 64 set))
 
 -- the checks of x with each of a set
-unfoldable pub rowText : Bool → ℕ → ℕ → List ℕ
-rowText more x set = checksFrom more (map (Indep x) (members 64 set))
+unfoldable pub rowText : ℕ → ℕ → List ℕ
+rowText x set = checksFrom true (map (Indep x) (members 64 set))
 
 -- the checks of each x of a list with its partners
 unfoldable pub pairsOf : List ℕ → List ℕ → ℕ → ℕ → ℕ → List ℕ → List Check
 pairsOf sets rows p q k [] = []
 pairsOf sets rows p q k (x ∷ xs) = map (Indep x) (members 64 (partners sets p q k (goal rows (x + 1)) x)) ++ pairsOf sets rows p q k xs
 
-unfoldable pub pairsText : Bool → List ℕ → List ℕ → ℕ → ℕ → ℕ → ℕ → List ℕ
-pairsText more sets rows p q k rest = checksFrom more (pairsOf sets rows p q k (members 64 rest))
+unfoldable pub pairsText : List ℕ → List ℕ → ℕ → ℕ → ℕ → ℕ → List ℕ
+pairsText sets rows p q k rest = checksFrom true (pairsOf sets rows p q k (members 64 rest))
+
+-- the length of texts that have `each` bytes and a number, one for each number of a list
+unfoldable pub numbersLength : ℕ → List ℕ → ℕ
+numbersLength each [] = 0
+numbersLength each (y ∷ l) = each + length (decimal y) + numbersLength each l
 
 -- the texts of a clause that is given as sets
 module _ (head : ℕ) (sets grounds rows : List ℕ) where
-  unfoldable pub checksText : ℕ → ℕ → List ℕ
-  checksText p q = checksFrom false (checks (given head sets grounds rows) p q)
+  -- the checks of a stage, a comma before each, and before the first where more holds
+  unfoldable pub checksText : Bool → ℕ → ℕ → List ℕ
+  checksText more p q = checksFrom more (checks (given head sets grounds rows) p q)
 
   unfoldable pub stageText : ℕ → ℕ → List ℕ
   stageText p q = W.stageText (given head sets grounds rows) (record { after = p; last = q })

@@ -9,7 +9,6 @@ use Rattle.text.proofs.Laws.{then, recast}
 use Rattle.mel.specs.Texts as X
 use Rattle.mel.proofs.Whole.{stages-one, stages-more}
 use Rattle.stages.proofs.Stages.{start-falls}
-use Prim.Native.Nat.{ℕ, _<_}
 use borrow.Fn.Kinds.{In}
 use borrow.Fn.PlainCycle.{Measures, is, falls, and}
 use Rattle.mel.proofs.put_stages.Reads as put-stages
@@ -17,7 +16,7 @@ use Rattle.mel.proofs.put_stages.Kinds as put-stages-kinds
 use Rattle.mel.proofs.+put_stages.Lts-put_stages as put-stages-lts
 use Rattle.mel.proofs.put_stage.Reads as put-stage-reads
 use Rattle.stages.proofs.start_of.Reads as start-of-reads
-use Rattle.text.proofs.put_byte.Reads as put-byte-reads
+use Rattle.text.proofs.store_byte.Reads as store-byte-reads
 use Rattle.mel.proofs.+put_stages.{statement}
 use Rattle.mel.proofs.+put_stages.Tie.{close}
 
@@ -34,7 +33,7 @@ put-stages-below t =
 
 -- the callees' contracts
 abbrev put-stages-K : ℕ → put-stages-lts.Claims
-put-stages-K t = (start-of-reads.Asked, start-of-reads.Learnt, put-stage-reads.Asked, put-stage-reads.Learnt, put-stages-below t, put-stages.Post, put-byte-reads.Asked, put-byte-reads.Learnt)
+put-stages-K t = (start-of-reads.Asked, start-of-reads.Learnt, put-stage-reads.Asked, put-stage-reads.Learnt, put-stages-below t, put-stages.Post, store-byte-reads.Asked, store-byte-reads.Learnt)
 
 -- one stage, and several
 one : (t : ℕ) (c : put-stages-lts.Then1 (put-stages-K t) (put-stages-at t) put-stages.Post) →
@@ -55,41 +54,32 @@ more t c =
 less : (t : ℕ) (c : put-stages-lts.After-start-of (put-stages-K t) (put-stages-at t) put-stages.Post) → c .start-of .result < c .before .before .before .before .before .before .args .q
 less t c = rw (c .start-of .ensures) (start-falls _ _ _ _ (omega arith))
 
--- src/lib.rt:161:9
 put-stages-start-of-requires : (t : ℕ) → put-stages-lts.Need-start-of-requires (put-stages-K t) (put-stages-at t) put-stages.Post
 put-stages-start-of-requires t c κs = ((omega arith, omega arith), (search))
 
--- src/lib.rt:163:9
 put-stages-put-stage-requires : (t : ℕ) → put-stages-lts.Need-put-stage-requires (put-stages-K t) (put-stages-at t) put-stages.Post
 put-stages-put-stage-requires t c κs = ((omega (arith, less t (c .before .before)), (omega arith, omega arith)), ((search), omega (arith, ap length (one t (c .before)))))
 
--- src/lib.rt:163:9
 put-stages-same-length : (t : ℕ) → put-stages-lts.Need-same-length (put-stages-K t) (put-stages-at t) put-stages.Post
 put-stages-same-length t c = search needs
 
--- src/lib.rt:163:9
 put-stages-returns : (t : ℕ) → put-stages-lts.Need-returns (put-stages-K t) (put-stages-at t) put-stages.Post
 put-stages-returns t c = recast (one t (c .before .before .before .before)) (c .before .before .put-stage .ensures)
 
--- src/lib.rt:165:9
 put-stages-put-stages-requires : (t : ℕ) → put-stages-lts.Need-put-stages-requires (put-stages-K t) (put-stages-at t) put-stages.Post
 put-stages-put-stages-requires t c κs = (omega (arith, less t (c .before .before)), ((omega arith, (omega (arith, less t (c .before .before)), omega arith)), ((search), omega (arith, simp length-append at (ap length (more t (c .before)))))))
 
--- src/lib.rt:166:5
-put-stages-put-byte-requires : (t : ℕ) → put-stages-lts.Need-put-byte-requires (put-stages-K t) (put-stages-at t) put-stages.Post
-put-stages-put-byte-requires t c κs = omega (arith, simp length-append at (ap length (more t (c .before .before .before .before .before))))
+put-stages-store-byte-requires : (t : ℕ) → put-stages-lts.Need-store-byte-requires (put-stages-K t) (put-stages-at t) put-stages.Post
+put-stages-store-byte-requires t c κs = omega (arith, simp length-append at (ap length (more t (c .before .before .before .before .before))))
 
--- src/lib.rt:167:5
 put-stages-put-stage-requires-2 : (t : ℕ) → put-stages-lts.Need-put-stage-requires-2 (put-stages-K t) (put-stages-at t) put-stages.Post
 put-stages-put-stage-requires-2 t c κs = ((omega (arith, less t (c .before .before .before .before .before .before .before .before .before .before)), (omega arith, omega arith)), ((search), omega (arith, simp length-append at (ap length (more t (c .before .before .before .before .before .before .before .before .before))))))
 
--- src/lib.rt:155:1
 put-stages-same-length-2 : (t : ℕ) → put-stages-lts.Need-same-length-2 (put-stages-K t) (put-stages-at t) put-stages.Post
 put-stages-same-length-2 t c = search needs
 
--- src/lib.rt:155:1
 put-stages-returns-2 : (t : ℕ) → put-stages-lts.Need-returns-2 (put-stages-K t) (put-stages-at t) put-stages.Post
-put-stages-returns-2 t c = recast (more t (c .before .before .before .before .before .before .before .before .before .before .before .before)) (then (then (c .before .before .before .before .before .before .before .before .before .before .put-stages .ensures) (c .before .before .before .before .before .before .put-byte .ensures)) (c .before .before .put-stage2 .ensures))
+put-stages-returns-2 t c = recast (more t (c .before .before .before .before .before .before .before .before .before .before .before .before)) (then (then (c .before .before .before .before .before .before .before .before .before .before .put-stages .ensures) (c .before .before .before .before .before .before .store-byte .ensures)) (c .before .before .put-stage2 .ensures))
 
 pub +put-stages-spec : {M : Type 1} → statement M
 +put-stages-spec = close μ-put-stages λ t. put-stages-lts.spec (put-stages-K t)
@@ -100,7 +90,7 @@ pub +put-stages-spec : {M : Type 1} → statement M
     (put-stages-same-length t)
     (put-stages-returns t)
     (put-stages-put-stages-requires t)
-    (put-stages-put-byte-requires t)
+    (put-stages-store-byte-requires t)
     (put-stages-put-stage-requires-2 t)
     (put-stages-same-length-2 t)
     (put-stages-returns-2 t)

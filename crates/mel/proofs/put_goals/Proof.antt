@@ -2,12 +2,12 @@ use Prim.Native.Nat.{ℕ, _≤_, _+_, _-_}
 use mathlib.Core.Path.{_≡_, ap}
 use mathlib.Core.List.{_++_}
 use native.Mathlib.Omega.{arith}
+use lib.Dec.{ltb}
 use lib.ListN.{length, length-append}
 use Rattle.text.specs.Text.{only, decimal}
 use Rattle.text.proofs.Laws.{Left, start, onward, done, left-kept, then}
 use Rattle.stages.specs.Mel as W
 use Rattle.mel.proofs.Lists.{goalsLeft, goals-whole, goals-step, goals-end}
-use lib.Dec.{ltb}
 use Rattle.mel.proofs.put_goals.Statement.{statement}
 use Rattle.mel.proofs.put_goals.Tie as tie
 
@@ -24,39 +24,30 @@ turn : (c : tie.In-loop Inv-loop μ-loop) →
     goalsLeft p (l .g) q ≡ only (ltb p (l .g)) 38 ++ decimal (l .g + 1) ++ goalsLeft p (l .g + 1) q
 turn c = goals-step _ _ _ (omega arith) (c .loop-test .taken)
 
--- src/lib.rt:100:5
 loop-holds : tie.Need-loop-holds Inv-loop μ-loop
 loop-holds c = (omega arith, (omega arith, rw (goals-whole _ _) (start _ _ _)))
 
--- src/lib.rt:101:9
-put-if-requires : tie.Need-put-if-requires Inv-loop μ-loop
-put-if-requires c κs = omega arith
+store-if-requires : tie.Need-store-if-requires Inv-loop μ-loop
+store-if-requires c κs = omega (arith, left-kept (c .before .before .loop .inv .1 .1), simp length-append at (ap length (turn (c .before))))
 
--- src/lib.rt:102:9
 add-g : tie.Need-add-g Inv-loop μ-loop
 add-g c = omega arith
 
--- src/lib.rt:103:38
-cast-put-number : tie.Need-cast-put-number Inv-loop μ-loop
-cast-put-number c = omega arith
+cast-store-number : tie.Need-cast-store-number Inv-loop μ-loop
+cast-store-number c = omega arith
 
--- src/lib.rt:103:9
-put-number-requires : tie.Need-put-number-requires Inv-loop μ-loop
-put-number-requires c κs = (omega arith, omega (arith, simp length-append at (ap length (turn (c .before .before .before .before .before)))))
+store-number-requires : tie.Need-store-number-requires Inv-loop μ-loop
+store-number-requires c κs = (omega arith, omega (arith, left-kept (c .before .before .before .before .before .before .loop .inv .1 .1), simp length-append at (ap length (turn (c .before .before .before .before .before)))))
 
--- src/lib.rt:100:5
 loop-less : tie.Need-loop-less Inv-loop μ-loop
 loop-less c = omega arith
 
--- src/lib.rt:100:5
 loop-again : tie.Need-loop-again Inv-loop μ-loop
-loop-again c = (omega arith, (omega arith, onward (c .before .before .before .before .before .before .before .before .before .loop .inv .1 .1) (then (c .before .before .before .before .before .before .put-if .ensures) (c .before .before .put-number .ensures)) (turn (c .before .before .before .before .before .before .before .before))))
+loop-again c = (omega arith, (omega arith, onward (c .before .before .before .before .before .before .before .before .before .loop .inv .1 .1) (then (c .before .before .before .before .before .before .store-if .ensures) (c .before .before .store-number .ensures)) (turn (c .before .before .before .before .before .before .before .before))))
 
--- src/lib.rt:93:1
 same-length : tie.Need-same-length Inv-loop μ-loop
 same-length c = left-kept (c .before .loop .inv .1 .1)
 
--- src/lib.rt:93:1
 returns : tie.Need-returns Inv-loop μ-loop
 returns c = done (c .before .loop .inv .1 .1) (goals-end _ _ _ (omega arith))
 
@@ -67,10 +58,10 @@ put-goals-spec =
     Inv-loop
     μ-loop
     loop-holds
-    put-if-requires
+    store-if-requires
     add-g
-    cast-put-number
-    put-number-requires
+    cast-store-number
+    store-number-requires
     loop-less
     loop-again
     same-length

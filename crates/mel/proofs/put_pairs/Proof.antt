@@ -1,25 +1,23 @@
 use Prim.Native.Nat.{ℕ, _<_, _^_}
 use mathlib.Core.Path.{_≡_, ap}
-use mathlib.Core.Bool.{_||_}
 use mathlib.Core.List.{_++_}
 use native.Mathlib.Omega.{arith}
 use denote.Ref.{now}
 use lib.ListN.{length, length-append}
-use borrow.Author.Needs.{needs}
 use Rattle.sets.specs.Sets.{first, without, single, members}
 use Rattle.sets.proofs.Members.{first-in, fewer}
-use Rattle.text.specs.Text.{some}
-use Rattle.text.proofs.Laws.{Left, start, onward, done, left-kept, moved}
+use Rattle.text.proofs.Laws.{Left, start, onward, done, left-kept}
 use Rattle.mel.specs.Texts as X
 use Rattle.mel.proofs.Lists.{pairs-step, pairs-end}
+use borrow.Author.Needs.{needs}
 use Rattle.mel.proofs.put_pairs.Statement.{statement}
 use Rattle.mel.proofs.put_pairs.Tie as tie
 
 abbrev Inv-loop : tie.InvT-loop
-Inv-loop out₀ at sets rows p q k more o₀ rest₀ comma₀ out o rest comma = (rest < 2 ^ 64) × Left (X.pairsText comma sets rows p q k rest) (X.pairsText more sets rows p q k k) at out₀ o out
+Inv-loop out₀ at sets rows p q k o₀ rest₀ out o rest = (rest < 2 ^ 64) × Left (X.pairsText sets rows p q k rest) (X.pairsText sets rows p q k k) at out₀ o out
 
 abbrev μ-loop : tie.MeasureT-loop
-μ-loop out₀ at sets rows p q k more o₀ rest₀ comma₀ out o rest comma = length (members 64 rest)
+μ-loop out₀ at sets rows p q k o₀ rest₀ out o rest = length (members 64 rest)
 
 small : (c : tie.After-first Inv-loop μ-loop) → c .first .result < 64
 small c = rw (c .first .ensures) (first-in 64 _ (c .before .before .loop .inv .0) (c .before .loop-test .taken))
@@ -28,67 +26,51 @@ small c = rw (c .first .ensures) (first-in 64 _ (c .before .before .loop .inv .0
 turn : (c : tie.After-partners Inv-loop μ-loop) →
     let l = c .before .before .before .before .loop in
     let a = c .before .before .before .before .before .before .before .before .args in
-    let x : ℕ = c .before .before .first .result in
-    let t = X.rowText (l .comma) x (c .partners .result) in
-    X.pairsText (l .comma) (now (a .sets)) (now (a .rows)) (a .p) (a .q) (a .k) (l .rest)
-    ≡ t ++ X.pairsText (l .comma || some t) (now (a .sets)) (now (a .rows)) (a .p) (a .q) (a .k) (without (l .rest) (single x))
-turn c = rw (c .partners .ensures, c .before .goal .ensures, c .before .before .first .ensures) (pairs-step _ _ _ _ _ _ _ (c .before .before .before .before .loop .inv .0) (c .before .before .before .loop-test .taken))
+    X.pairsText (now (a .sets)) (now (a .rows)) (a .p) (a .q) (a .k) (l .rest)
+    ≡ X.rowText (c .before .before .first .result) (c .partners .result)
+    ++ X.pairsText (now (a .sets)) (now (a .rows)) (a .p) (a .q) (a .k) (without (l .rest) (single (first 64 (l .rest))))
+turn c =
+    rw (c .partners .ensures, c .before .goal .ensures, c .before .before .first .ensures)
+    (pairs-step _ _ _ _ _ _ (c .before .before .before .before .loop .inv .0) (c .before .before .before .loop-test .taken))
 
--- src/lib.rt:80:5
 loop-holds : tie.Need-loop-holds Inv-loop μ-loop
 loop-holds c = (search needs, start _ _ _)
 
--- src/lib.rt:81:13
 first-requires : tie.Need-first-requires Inv-loop μ-loop
 first-requires c κs = tt
 
--- src/lib.rt:82:38
 cast-goal : tie.Need-cast-goal Inv-loop μ-loop
 cast-goal c = omega (arith, small c)
 
--- src/lib.rt:82:38
 add-goal : tie.Need-add-goal Inv-loop μ-loop
 add-goal c = omega (arith, small c)
 
--- src/lib.rt:82:13
 goal-requires : tie.Need-goal-requires Inv-loop μ-loop
 goal-requires c κs = omega arith
 
--- src/lib.rt:83:13
 partners-requires : tie.Need-partners-requires Inv-loop μ-loop
 partners-requires c κs = ((omega arith, omega arith), small (c .before))
 
--- src/lib.rt:84:33
 cast-put-row : tie.Need-cast-put-row Inv-loop μ-loop
 cast-put-row c = omega (arith, small (c .before .before .before))
 
--- src/lib.rt:84:13
 put-row-requires : tie.Need-put-row-requires Inv-loop μ-loop
-put-row-requires c κs = (omega (arith, small (c .before .before .before)), omega (arith, simp length-append at (ap length (turn (c .before)))))
+put-row-requires c κs = (omega (arith, small (c .before .before .before)), omega (arith, left-kept (c .before .before .before .before .before .loop .inv .1), simp length-append at (ap length (turn (c .before)))))
 
--- src/lib.rt:87:36
-single-requires : tie.Need-single-requires Inv-loop μ-loop
-single-requires c κs = small (c .before .before .before .before .before .before)
+without-first-requires : tie.Need-without-first-requires Inv-loop μ-loop
+without-first-requires c κs = omega (arith, c .before .before .before .before .before .before .before .loop-test .taken)
 
--- src/lib.rt:87:9
-without-requires : tie.Need-without-requires Inv-loop μ-loop
-without-requires c κs = tt
-
--- src/lib.rt:80:5
 loop-less : tie.Need-loop-less Inv-loop μ-loop
-loop-less c = rw (c .without .ensures, c .before .single .ensures, c .before .before .before .before .before .before .before .before .first .ensures) (fewer 64 _ (c .before .before .before .before .before .before .before .before .before .before .loop .inv .0) (c .before .before .before .before .before .before .before .before .before .loop-test .taken))
+loop-less c = rw (c .without-first .ensures) (fewer 64 _ (c .before .before .before .before .before .before .before .before .before .loop .inv .0) (c .before .before .before .before .before .before .before .before .loop-test .taken))
 
--- src/lib.rt:80:5
 loop-again : tie.Need-loop-again Inv-loop μ-loop
-loop-again c = (c .without .ok, rw (c .without .ensures, c .before .single .ensures, moved (c .before .before .before .before .put-row .ensures)) (onward (c .before .before .before .before .before .before .before .before .before .before .loop .inv .1) (c .before .before .before .before .put-row .ensures) (turn (c .before .before .before .before .before .before))))
+loop-again c = (c .without-first .ok, rw (c .without-first .ensures) (onward (c .before .before .before .before .before .before .before .before .before .loop .inv .1) (c .before .before .before .put-row .ensures) (turn (c .before .before .before .before .before))))
 
--- src/lib.rt:72:1
 same-length : tie.Need-same-length Inv-loop μ-loop
 same-length c = left-kept (c .before .loop .inv .1)
 
--- src/lib.rt:72:1
 returns : tie.Need-returns Inv-loop μ-loop
-returns c = done (c .before .loop .inv .1) (pairs-end _ _ _ _ _ _ _ (c .loop-test .left))
+returns c = done (c .before .loop .inv .1) (pairs-end _ _ _ _ _ _ (c .loop-test .left))
 
 pub put-pairs-spec : {M : Type 1} → statement M
 put-pairs-spec =
@@ -104,8 +86,7 @@ put-pairs-spec =
     partners-requires
     cast-put-row
     put-row-requires
-    single-requires
-    without-requires
+    without-first-requires
     loop-less
     loop-again
     same-length

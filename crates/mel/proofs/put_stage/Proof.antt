@@ -1,89 +1,100 @@
-use mathlib.Core.Path.{_≡_, ap}
-use mathlib.Core.Bool.{Bool}
+use Prim.Native.Nat.{ℕ, _+_, _≤_, max}
+use mathlib.Core.Path.{_≡_, ap, _∙_}
+use mathlib.Core.Bool.{Bool, true, false}
 use mathlib.Core.List.{[], _∷_, _++_}
 use native.Mathlib.Omega.{arith}
 use denote.Ref.{now}
+use lib.Dec.{ltb}
 use lib.ListN.{length, length-append}
-use borrow.Author.Needs.{needs}
 use Rattle.text.specs.Text.{some}
-use Rattle.text.proofs.Laws.{then, recast, moved}
+use Rattle.text.proofs.Laws.{then, recast, moved, arrive}
 use Rattle.stages.specs.Mel as W
 use Rattle.mel.specs.Texts as X
-use Rattle.mel.proofs.Whole.{stage-one, stage-parts}
+use Rattle.mel.proofs.Whole.{checks-opened, checks-some, stage-one, stage-parts}
+use Rattle.mel.proofs.Counting.{stage-room}
+use borrow.Author.Needs.{needs}
 use Rattle.mel.proofs.put_stage.Statement.{statement}
 use Rattle.mel.proofs.put_stage.Tie as tie
 
 -- the parts of a larger stage
 several : (c : tie.Else1) →
     let a = c .before .before .before .before .before .before .args in
-    let t = X.checksText (a .head) (now (a .sets)) (now (a .grounds)) (now (a .rows)) (a .p) (a .q) in
+    let t = X.checksText (a .head) (now (a .sets)) (now (a .grounds)) (now (a .rows)) false (a .p) (a .q) in
     (40 ∷ []) ++ t ++ W.arrowIf (some t) ++ W.goalsText (a .p) (a .q) ++ (41 ∷ []) ≡ X.stageText (a .head) (now (a .sets)) (now (a .grounds)) (now (a .rows)) (a .p) (a .q)
 several c = stage-parts _ _ _ _ _ _ (c .if1 .left)
 
--- src/lib.rt:144:13
+room : (c : tie.Else1) →
+    let a = c .before .before .before .before .before .before .args in
+    length (X.checksText (a .head) (now (a .sets)) (now (a .grounds)) (now (a .rows)) true (a .p) (a .q)) + length (W.goalsText (a .p) (a .q)) + 2 ≤ length (X.stageText (a .head) (now (a .sets)) (now (a .grounds)) (now (a .rows)) (a .p) (a .q))
+room c = stage-room _ _ _ _ _ _ (c .if1 .left)
+
+-- where the checks end, with the parenthesis, and whether there are any
+end : (c : tie.After-store-byte) →
+    let a = c .before .before .before .before .before .before .before .before .before .before .before .before .args in
+    max (c .store-byte .result) (c .before .before .before .before .put-checks .result) ≡ a .at + (1 + length (X.checksText (a .head) (now (a .sets)) (now (a .grounds)) (now (a .rows)) false (a .p) (a .q)))
+end c = omega (arith, checks-opened _ _ _ _ _ _ (c .before .before .before .before .put-checks .ensures) (c .store-byte .ensures) .place)
+
+any : (c : tie.After-put-checks) →
+    let a = c .before .before .before .before .before .before .before .before .args in
+    ltb (a .at) (c .put-checks .result) ≡ some (X.checksText (a .head) (now (a .sets)) (now (a .grounds)) (now (a .rows)) false (a .p) (a .q))
+any c = moved (c .put-checks .ensures) ∙ checks-some _ _ _ _ _ _
+
 add-if1 : tie.Need-add-if1
 add-if1 c = search needs
 
--- src/lib.rt:145:42
-cast-put-number : tie.Need-cast-put-number
-cast-put-number c = search needs
+cast-store-number : tie.Need-cast-store-number
+cast-store-number c = search needs
 
--- src/lib.rt:145:9
-put-number-requires : tie.Need-put-number-requires
-put-number-requires c κs = search needs
+store-number-requires : tie.Need-store-number-requires
+store-number-requires c κs = let a = c .before .before .before .before .before .before .before .args in (omega arith, omega (arith, ap length (stage-one (a .head) (now (a .sets)) (now (a .grounds)) (now (a .rows)) (a .p) (a .q) (c .before .if1 .taken))))
 
--- src/lib.rt:145:9
 same-length : tie.Need-same-length
 same-length c = search needs
 
--- src/lib.rt:145:9
 returns : tie.Need-returns
-returns c = recast (stage-one _ _ _ _ _ _ (c .before .before .before .before .if1 .taken)) (c .before .before .put-number .ensures)
+returns c = recast (stage-one _ _ _ _ _ _ (c .before .before .before .before .if1 .taken)) (c .before .before .store-number .ensures)
 
--- src/lib.rt:147:9
-put-byte-requires : tie.Need-put-byte-requires
-put-byte-requires c κs = search needs
-
--- src/lib.rt:148:9
 put-checks-requires : tie.Need-put-checks-requires
-put-checks-requires c κs = ((omega arith, (omega arith, omega arith)), ((search), omega (arith, simp length-append at (ap length (several (c .before .before .before .before .before))))))
+put-checks-requires c κs = ((omega arith, (omega arith, omega arith)), ((search), omega (arith, room (c .before))))
 
--- src/lib.rt:149:5
+store-byte-requires : tie.Need-store-byte-requires
+store-byte-requires c κs = omega (arith, room (c .before .before .before .before .before))
+
+later-requires : tie.Need-later-requires
+later-requires c κs = search needs
+
 put-arrow-requires : tie.Need-put-arrow-requires
-put-arrow-requires c κs = omega (arith, simp length-append at (ap length (several (c .before .before .before .before .before .before .before .before .before))))
+put-arrow-requires c κs = omega (arith, c .later .ensures, end (c .before .before .before .before), simp length-append at (ap length (several (c .before .before .before .before .before .before .before .before .before .before))), ap (λ (b : Bool). length (W.arrowIf b)) (any (c .before .before .before .before .before .before .before .before)))
 
--- src/lib.rt:150:5
 put-goals-requires : tie.Need-put-goals-requires
-put-goals-requires c κs = ((omega arith, omega arith), omega (arith, simp length-append at (ap length (several (c .before .before .before .before .before .before .before .before .before .before .before .before .before))), ap (λ (b : Bool). length (W.arrowIf b)) (moved (c .before .before .before .before .before .before .before .put-checks .ensures))))
+put-goals-requires c κs = ((omega arith, omega arith), omega (arith, c .before .before .before .before .later .ensures, end (c .before .before .before .before .before .before .before .before), simp length-append at (ap length (several (c .before .before .before .before .before .before .before .before .before .before .before .before .before .before))), ap (λ (b : Bool). length (W.arrowIf b)) (any (c .before .before .before .before .before .before .before .before .before .before .before .before))))
 
--- src/lib.rt:151:5
-put-byte-requires-2 : tie.Need-put-byte-requires-2
-put-byte-requires-2 c κs = omega (arith, simp length-append at (ap length (several (c .before .before .before .before .before .before .before .before .before .before .before .before .before .before .before .before .before))), ap (λ (b : Bool). length (W.arrowIf b)) (moved (c .before .before .before .before .before .before .before .before .before .before .before .put-checks .ensures)))
+store-byte-requires-2 : tie.Need-store-byte-requires-2
+store-byte-requires-2 c κs = omega (arith, c .before .before .before .before .before .before .before .before .later .ensures, end (c .before .before .before .before .before .before .before .before .before .before .before .before), simp length-append at (ap length (several (c .before .before .before .before .before .before .before .before .before .before .before .before .before .before .before .before .before .before))), ap (λ (b : Bool). length (W.arrowIf b)) (any (c .before .before .before .before .before .before .before .before .before .before .before .before .before .before .before .before)))
 
--- src/lib.rt:138:1
 same-length-2 : tie.Need-same-length-2
 same-length-2 c = search needs
 
--- src/lib.rt:138:1
 returns-2 : tie.Need-returns-2
 returns-2 c =
-    let arrow = recast (ap W.arrowIf (moved (c .before .before .before .before .before .before .before .before .before .before .before .before .before .before .put-checks .ensures))) (c .before .before .before .before .before .before .before .before .before .before .put-arrow .ensures) in
-    recast (several (c .before .before .before .before .before .before .before .before .before .before .before .before .before .before .before .before .before .before .before .before))
-    (then (then (then (then (c .before .before .before .before .before .before .before .before .before .before .before .before .before .before .before .before .before .before .put-byte .ensures) (c .before .before .before .before .before .before .before .before .before .before .before .before .before .before .put-checks .ensures)) arrow) (c .before .before .before .before .before .before .put-goals .ensures)) (c .before .before .put-byte2 .ensures))
+    let start = arrive (c .before .before .before .before .before .before .before .before .before .before .before .later .ensures) (checks-opened _ _ _ _ _ _ (c .before .before .before .before .before .before .before .before .before .before .before .before .before .before .before .before .before .before .before .put-checks .ensures) (c .before .before .before .before .before .before .before .before .before .before .before .before .before .before .before .store-byte .ensures)) in
+    let arrow = recast (ap W.arrowIf (any (c .before .before .before .before .before .before .before .before .before .before .before .before .before .before .before .before .before .before .before))) (c .before .before .before .before .before .before .before .before .before .before .put-arrow .ensures) in
+    recast (several (c .before .before .before .before .before .before .before .before .before .before .before .before .before .before .before .before .before .before .before .before .before)) (then (then (then start arrow) (c .before .before .before .before .before .before .put-goals .ensures)) (c .before .before .store-byte2 .ensures))
 
 pub put-stage-spec : {M : Type 1} → statement M
 put-stage-spec =
     tie.close
     (tie.spec
     add-if1
-    cast-put-number
-    put-number-requires
+    cast-store-number
+    store-number-requires
     same-length
     returns
-    put-byte-requires
     put-checks-requires
+    store-byte-requires
+    later-requires
     put-arrow-requires
     put-goals-requires
-    put-byte-requires-2
+    store-byte-requires-2
     same-length-2
     returns-2)
