@@ -44,6 +44,10 @@ bool-first false false true false x y m = refl
 bool-first false false false true x y m = refl
 bool-first false false false false x y m = refl
 
+nothing : (k a : Bool) → (a || (k && false)) ≡ a
+nothing true a = or-false a
+nothing false a = or-false a
+
 -- ---- sets
 stands-or : (a b : ℕ) → leb 1 (a + b) ≡ (leb 1 a || leb 1 b)
 stands-or zero b = let e : zero + b ≡ b = omega arith in ap (λ z. leb 1 z) e
@@ -149,10 +153,6 @@ links-group set part rows w = record { words = w; order = λ i j l l′. sym (or
 pub links-none : (k : Bool) (part : ℕ) (rows : List ℕ) → Words rows → Links k 0 part rows rows
 links-none k part rows w =
     record { words = w; order = λ i j l l′. sym (ap (λ b. ahead rows (suc i) (suc j) || (k && (b && has part j))) (has-empty i) ∙ nothing k (ahead rows (suc i) (suc j))) }
-  where
-    nothing : (k a : Bool) → (a || (k && false)) ≡ a
-    nothing true a = or-false a
-    nothing false a = or-false a
 
 module _ (k : Bool) (rows₀ : List ℕ) (set extra : ℕ) (rows : List ℕ) (x : Expr) (kind : Kind) (part new : ℕ) (mid now : List ℕ) where
   set-is : Told x rows kind part new mid → (i : ℕ) → i < 32 → has (union set part) i ≡ (has set i || stands x (suc i))
@@ -175,10 +175,6 @@ module _ (k : Bool) (rows₀ : List ℕ) (set extra : ℕ) (rows : List ℕ) (x 
             ∙ t .order i j lt lt′ ∙ ap (λ z. ahead z (suc i) (suc j) || before x (suc i) (suc j)) (h .1);
         words = l .words;
       }
-    where
-      nothing : (k a : Bool) → (a || (k && false)) ≡ a
-      nothing true a = or-false a
-      nothing false a = or-false a
 
   pub told-push : (f : Front) → FrontTold k f rows₀ set extra rows → Told x rows kind part new mid → Links k set part mid now
       → FrontTold k (some (push k f x)) rows₀ (union set part) (clash extra new set part) now

@@ -249,9 +249,7 @@ fn primary(text: &[u8], at: usize, depth: usize, rows: &mut [u32; 32]) -> Part
         }
         let bare = spare(text, at, depth);
         match bare {
-            Wrapped::Number(node) => {
-                return Part::Read(node);
-            }
+            Wrapped::Number(node) => return Part::Read(node),
             Wrapped::Other => {}
         }
         let part = sequence(text, at + 1, depth + 1, rows);
