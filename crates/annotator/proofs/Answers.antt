@@ -6,13 +6,12 @@ use Prim.Native.Nat.{ℕ, _+_, _≤_, zero-le}
 use native.Mathlib.Omega.{arith}
 use lib.Dec.{leb}
 use lib.ListN.{length}
-use borrow.Author.Tests.{leb-true}
-use Rattle.logic.proofs.Bools.{and-l, and-r}
 use Rattle.graph.specs.Graph.{edgeless}
 use Rattle.graph.specs.declared.Graph.{Graph}
 use Rattle.refusal.specs.declared.Refusal.{Refusal}
 use Rattle.reading.specs.declared.Reading.{Reading}
 use Rattle.reading.specs.declared.Reading.the-variants.{Fine, Refused as Unread}
+use Rattle.reading.proofs.Must.{between-low, between-high}
 use Rattle.record.specs.Fields.{goalCount, textPlace, textLength}
 use Rattle.record.specs.Reading.{reading}
 use Rattle.record.specs.WellFormed.{WellFormed}
@@ -67,7 +66,7 @@ module _ (b : List ℕ) where
     where
       by-range : WellFormed b → (t : Bool) → leb 1 g && leb g (goalCount b) ≡ t →
           cond t (textOf b g) (noText 14 0) .start + cond t (textOf b g) (noText 14 0) .length ≤ length b
-      by-range w true e = text-inside b w g (leb-true 1 g (and-l (leb 1 g) (leb g (goalCount b)) e)) (leb-true g (goalCount b) (and-r (leb 1 g) (leb g (goalCount b)) e))
+      by-range w true e = text-inside b w g (between-low 1 (goalCount b) g e) (between-high 1 (goalCount b) g e)
       by-range w false e = zero-le
 
       by-reading : (s : Reading) → reading b ≡ s →
@@ -91,6 +90,4 @@ module _ (b : List ℕ) where
   tested g e f h = ap (λ (n : ℕ). leb 1 g && leb g n) (sym h) ∙ sym e ∙ f
 
   pub in-range : (g : ℕ) → WellFormed b → leb 1 g && leb g (goalCount b) ≡ true → (1 ≤ g) × (g ≤ 32)
-  in-range g w e =
-      let h = leb-true g (goalCount b) (and-r (leb 1 g) (leb g (goalCount b)) e) in
-      (leb-true 1 g (and-l (leb 1 g) (leb g (goalCount b)) e), omega (arith, h, w .goals-to))
+  in-range g w e = (between-low 1 (goalCount b) g e, omega (arith, between-high 1 (goalCount b) g e, w .goals-to))

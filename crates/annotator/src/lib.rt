@@ -1,26 +1,23 @@
 // The operations of the paper, each from lent bytes to its whole answer. None has a precondition.
 //
 // `bytes` is the record. It and `text` are lent by `&` and stay as they were; `out` is lent by `&mut`. Reading the record starts every operation, so
-// refusals 1 to 11 come before those of its own, which come in the sequence given. A refusal has its number and place, every other value zero (13 also
-// has its four goals), and changes no lent byte. Definitions without a crate stand in specs/ here.
+// refusals 1 to 11 come first, then those of its own in the sequence given. A refusal has its number and place, every other value zero (13 also has its
+// four goals), and changes no lent byte.
 //
-// operation                accepted, it answers                                              refuses   promised by
-// -----------------------  ----------------------------------------------------------------  --------  ------------------------------------------
-// read(bytes)              the goal count n                                                  1 to 11   Answers.read
-// order(bytes)             n, and the closed graph: row g - 1 has the goals that g is        1 to 11   Answers.read, Answers.orderGraph
-//                          before, rows past n are empty; refused, the empty graph of 0 goals
-// form(bytes, out)         the length of the house form's text, which fills the first        .., 13,   Form.plan, Form.answer, Form.filled in `form`
-//                          bytes of `out`; the rest of `out` is kept                         12
-// form_length(bytes)       a number from the form's length up to 160; which is left free     .., 13    Form.plan, Form.Estimated in `form`
-// mel(bytes, out)          the length of the MEL annotation, which fills the first bytes     .., 12    Annotation.melAnswer, Annotation.melBuffer in
-//                          of `out`; the rest of `out` is kept                                         `mel`
-// find_text(bytes, goal)   the place and the length of the goal's text in the record         .., 14    Answers.goalText
-// goal_text(bytes, goal)   the part of the lent record that holds this text; with any        none      Answers.goalText, Part.PartAt
-//                          refusal, which find_text gives, the empty part at its start
-// check(bytes, text)       1 "same", or 2 "differs" with the first i, then j, for which      .., 15,   Answers.check, over Check.checked in `grammar`
-//                          just one of the two orders has i before j                         16, 17
+// operation               accepted, it answers                                                 refuses              promised by
+// ----------------------  -------------------------------------------------------------------  -------------------  -----------------------------------------
+// read(bytes)             the goal count n                                                     1 to 11              Answers.read
+// order(bytes)            n and the closed graph: row g - 1 has the goals that g is before     1 to 11              Answers.read, Answers.orderGraph
+// form(bytes, out)        the length of the house form's text, which fills the start of `out`  1 to 11, 13, 12      form: Form.plan, Form.answer, Form.filled
+// form_length(bytes)      a number from the form's length up to 160, which one is left free    1 to 11, 13          form: Form.plan, Form.Estimated
+// mel(bytes, out)         the length of the MEL annotation, which fills the start of `out`     1 to 11, 12          mel: Annotation.melAnswer, melBuffer
+// find_text(bytes, goal)  the place and the length of the goal's text in the record            1 to 11, 14          Answers.goalText
+// goal_text(bytes, goal)  the part of the lent record that holds this text                     as find_text         Answers.goalText, Part.PartAt
+// check(bytes, text)      1 "same", or 2 "differs" with the first i, then j                    1 to 11, 15, 16, 17  Answers.check; grammar: Check.checked
 //
-// `inside` is no operation: the test behind refusal 14, for callers that have a goal count.
+// The definitions are those of specs/ here, or of the crate named before a colon. Rows past n are empty, and a refused record's graph is the empty one of
+// 0 goals. Behind its text `out` is kept. With any refusal, which find_text names, the part is the empty one at the record's start. For i and j just one
+// of the two orders, the record's and the text's, has i before j. `inside` is no operation: the test behind 14, for callers that have a goal count.
 //
 // refusal                                                                          place
 // -------------------------------------------------------------------------------  ------------------------------------------------------------------

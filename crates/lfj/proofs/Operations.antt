@@ -10,14 +10,13 @@ use native.Mathlib.Omega.{arith}
 use lib.Dec.{leb}
 use lib.ListN.{length}
 use lib.Pow.{pow-mono}
-use borrow.Author.Tests.{leb-true}
-use Rattle.logic.proofs.Bools.{and-l, and-r}
 use Rattle.text.specs.Lent.{fits}
 use Rattle.graph.proofs.Rows.{goals-lt}
 use Rattle.fields.specs.Fields.{goalCount, textPlace}
 use Rattle.reading.specs.declared.Reading.{Reading}
 use Rattle.reading.specs.declared.Reading.the-variants.{Fine, Refused as Unread}
 use Rattle.reading.specs.Reading.{reading}
+use Rattle.reading.proofs.Must.{between-low, between-high}
 use Rattle.record.specs.WellFormed.{WellFormed}
 use Rattle.record.proofs.WellFormed.{fine-well-formed}
 use Rattle.record.proofs.Limits.{text-limit, place-limit}
@@ -87,8 +86,8 @@ module _ (b : List ℕ) where
       by-range : WellFormed b → (t : Bool) → leb 1 g && leb g (goalCount b) ≡ t →
           let v = cond t (textOf b g) (noText 14 0) in (v .start < 2 ^ 32) × (v .length < 2 ^ 16)
       by-range w true e =
-          let l = leb-true 1 g (and-l (leb 1 g) (leb g (goalCount b)) e) in
-          let h = leb-true g (goalCount b) (and-r (leb 1 g) (leb g (goalCount b)) e) in
+          let l = between-low 1 (goalCount b) g e in
+          let h = between-high 1 (goalCount b) g e in
           (placed w l h, omega (arith, text-limit b w g l h))
       by-range w false e = (omega arith, omega arith)
 
