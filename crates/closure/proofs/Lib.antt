@@ -1,3 +1,2 @@
-pub mod InPlace
-pub mod Rows
+pub mod Visits
 pub mod Chains

@@ -1,9 +1,11 @@
 -- The closure of a dependency graph (01, "The waiting order": "a chain of waits leads from i to j").
 use mathlib.Core.Path.{_≡_}
-use mathlib.Core.Bool.{cond, _&&_, _||_}
+use mathlib.Core.Bool.{true, _&&_, _||_}
 use mathlib.Core.List.{List}
-use Prim.Native.Nat.{ℕ, suc}
-use Rattle.sets.specs.Sets.{has, union}
+use Prim.Native.Nat.{ℕ, _<_}
+use lib.ListN.{getD}
+use Rattle.logic.specs.Quantifiers.{someBelow}
+use Rattle.sets.specs.Sets.{has, setOf}
 use Rattle.expression.specs.Closure.{closed}
 use Rattle.graph.specs.Graph.{ahead, rowsOf, graphOf}
 use Rattle.graph.specs.declared.Graph.{Graph}
@@ -12,14 +14,18 @@ use Rattle.graph.specs.declared.Graph.{Graph}
 abbrev pub Within : ℕ → List ℕ → Type 0
 Within n rows = rows ≡ rowsOf n (ahead rows)
 
+-- they lead from lower to higher numbers
+abbrev pub Rising : List ℕ → Type 0
+Rising rows = (i j : ℕ) → ahead rows i j ≡ true → i < j
+
 -- the graph of the chains of a graph
 unfoldable pub closing : Graph → Graph
 closing g = graphOf (g .n) (closed (ahead (g .rows)) (g .n))
 
--- the rows with the chains of two through goal k + 1
-unfoldable pub through : ℕ → ℕ → List ℕ → List ℕ
-through n k rows = rowsOf n (λ i j. ahead rows i j || (ahead rows i (suc k) && ahead rows (suc k) j))
+-- what a number leads to by the rows has all that it leads to
+abbrev pub Closed : List ℕ → Type 0
+Closed rows = (i j k : ℕ) → has (getD rows i 0) j ≡ true → has (getD rows j 0) k ≡ true → has (getD rows i 0) k ≡ true
 
--- a row with what its member k leads to
-unfoldable pub widen : ℕ → ℕ → ℕ → ℕ
-widen k via row = cond (has row k) (union row via) row
+-- what is in the set or is led to from a member
+unfoldable pub reached : List ℕ → ℕ → ℕ
+reached rows set = setOf 32 (λ j. has set j || someBelow 32 (λ k. has set k && has (getD rows k 0) j))

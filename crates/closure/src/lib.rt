@@ -5,42 +5,32 @@ ghost use denote.Ref.{now};
 ghost use Rattle.closure.specs.Closing as C;
 use graph::Graph;
 
-// The row with what its member k leads to.
-fn widened(row: u32, via: u32, k: usize) -> u32
-    requires { ⌜ k < 32 ⌝ }
-    ensures { λ r. ⌜ r ≡ C.widen k via row ⌝ }
+// What is in the set or is led to from a member. The rows are closed: what a member leads to need not be visited.
+fn reached(set: u32, rows: &[u32; 32]) -> u32
+    requires { ⌜ C.Closed (now rows) ⌝ }
+    ensures { λ r. ⌜ r ≡ C.reached (now (rows .entry)) set ⌝ }
 {
-    if sets::has32(row, k) {
-        sets::union32(row, via)
-    } else {
-        row
+    let mut all = set;
+    let mut left = set;
+    while left != 0 {
+        let k = sets::first32(left);
+        let via = rows[k];
+        all = sets::union32(all, via);
+        left = sets::without32(left, sets::union32(via, sets::single32(k)));
     }
+    all
 }
 
-// Adds the chains of two through goal k + 1.
-fn through(rows: &mut [u32; 32], n: usize, k: usize)
-    requires { ⌜ (k < n) × (n ≤ 32) × C.Within n (now rows) ⌝ }
-    ensures { λ _. ⌜ now (rows .exit) ≡ C.through n k (now (rows .entry)) ⌝ }
-{
-    let via = rows[k];
-    let mut i = 0;
-    while i < n {
-        rows[i] = widened(rows[i], via, k);
-        i += 1;
-    }
-}
-
-// The graph of the chains of g.
+// The graph of the chains of g, whose edges lead from lower to higher numbers: from the last goal down, each row is closed by the rows behind it.
 pub fn close(g: Graph) -> Graph
-    requires { ⌜ (g .n ≤ 32) × C.Within (g .n) (g .rows) ⌝ }
+    requires { ⌜ (g .n ≤ 32) × C.Within (g .n) (g .rows) × C.Rising (g .rows) ⌝ }
     ensures { λ r. ⌜ r ≡ C.closing g ⌝ }
 {
-    let n = g.n;
-    let mut rows = g.rows;
-    let mut k = 0;
-    while k < n {
-        through(&mut rows, n, k);
-        k += 1;
+    let mut closed = Graph::empty(g.n);
+    let mut k = g.n;
+    while k > 0 {
+        k -= 1;
+        closed.rows[k] = reached(g.rows[k], &closed.rows);
     }
-    Graph { n, rows }
+    closed
 }

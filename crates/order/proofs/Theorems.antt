@@ -25,7 +25,7 @@ waits-parts b i j h =
     let d = and-l (leb 1 i && ltb i j) (leb j n) e in
     (leb-true 1 i (and-l (leb 1 i) (ltb i j) d), ltb-true i j (and-r (leb 1 i) (ltb i j) d), leb-true j n (and-r (leb 1 i && ltb i j) (leb j n) e))
 
-waits-rise : (b : List ℕ) (i j : ℕ) → waits b i j ≡ true → i < j
+pub waits-rise : (b : List ℕ) (i j : ℕ) → waits b i j ≡ true → i < j
 waits-rise b i j h = waits-parts b i j h .1
 
 -- 01: "Goal i is before goal j if a chain of waits leads from i to j": so does the test

@@ -1,16 +1,20 @@
 -- How a loop makes the row of a goal.
-use mathlib.Core.Path.{_≡_, sym, ap, _∙_}
+use mathlib.Core.Path.{_≡_, refl, sym, ap, _∙_}
 use mathlib.Core.Bool.{Bool, cond, _&&_}
 use mathlib.Core.List.{List}
-use Prim.Native.Nat.{ℕ, _+_, _<_}
+use Prim.Native.Nat.{ℕ, _+_, _*_, _%_, _^_, _≤_, _<_}
+use native.Mathlib.Nat.{mod-eq-of-lt, pow-suc}
 use native.Mathlib.Numerals.{add-one}
 use native.Mathlib.Omega.{arith}
-use lib.ListN.{getD}
-use lib.Pow.{pow-pos}
-use borrow.Author.Tests.{lt-ltb, le-ltb}
+use lib.Dec.{leb}
+use lib.ListN.{getD, set, replicate, length-replicate, getD-replicate}
+use lib.Pow.{pow-pos, pow-lt, pow-mono}
+use borrow.Author.Tests.{lt-ltb, le-ltb, le-leb, lt-leb}
+use Rattle.arrays.specs.Table.{table}
+use Rattle.arrays.proofs.Table.{table-ext, table-more}
 use Rattle.sets.specs.Sets.{union, single}
 use Rattle.sets.proofs.Laws.{has-empty}
-use Rattle.sets.proofs.Builder.{setOf-ext, setOf-more}
+use Rattle.sets.proofs.Builder.{setOf-ext, setOf-more, setOf-lt}
 use Rattle.judge.specs.ByRows.{waitsBy}
 use Rattle.order.specs.Arrays.{waitsAt, waitRow}
 
@@ -25,11 +29,35 @@ module _ (ground free : ℕ) (goals rows : List ℕ) (i : ℕ) where
       ∙ sym (ap (λ (t : Bool). t && waitsBy ground free rows 64 (getD goals i 0) (getD goals j 0)) (le-ltb i j (omega arith))))
 
   -- one goal more
-  pub row-more : (j : ℕ) → i < j
-      → (let row = waitRow ground free goals rows j i in cond (waitsBy ground free rows 64 (getD goals i 0) (getD goals j 0)) (union row (single j)) row)
+  pub row-more : (j one : ℕ) → i < j → one ≡ single j
+      → (let row = waitRow ground free goals rows j i in cond (waitsBy ground free rows 64 (getD goals i 0) (getD goals j 0)) (union row one) row)
       ≡ waitRow ground free goals rows (j + 1) i
   unfolding waitRow
-  row-more j h =
+  row-more j one h e =
+      let row = waitRow ground free goals rows j i in
+      let waits = waitsBy ground free rows 64 (getD goals i 0) (getD goals j 0) in
       rw (add-one j)
-      (ap (λ (t : Bool). cond (t && waitsBy ground free rows 64 (getD goals i 0) (getD goals j 0)) (union (waitRow ground free goals rows j i) (single j)) (waitRow ground free goals rows j i)) (sym (lt-ltb i j h))
+      (ap (λ (m : ℕ). cond waits (union row m) row) e ∙ ap (λ (t : Bool). cond (t && waits) (union row (single j)) row) (sym (lt-ltb i j h))
       ∙ sym (setOf-more j (λ k. waitsAt ground free goals rows i k)))
+
+  pub row-small : (n : ℕ) → n ≤ 32 → waitRow ground free goals rows n i < 2 ^ 32
+  unfolding waitRow
+  row-small n h = omega (arith, setOf-lt n (λ j. waitsAt ground free goals rows i j), pow-mono {i = n} {j = 32} h)
+
+-- the single set of the goal behind goal i + 1, and those that follow, as the machine computes them
+pub one-next : (j one : ℕ) → one ≡ single j → 2 * one ≡ single (j + 1)
+one-next j one e = omega (arith, e, pow-suc 2 j, ap (λ (x : ℕ). 2 ^ x) (add-one j))
+
+pub one-first : (i : ℕ) → i < 32 → 2 * 2 ^ i % 2 ^ 64 ≡ single (i + 1)
+one-first i h = ap (λ (x : ℕ). x % 2 ^ 64) (one-next i (2 ^ i) refl) ∙ mod-eq-of-lt (pow-lt {i = i + 1} {j = 64} (omega arith))
+
+-- rows that begin after the first `from`
+pub from-none : (from : ℕ) (f : ℕ → ℕ) → replicate 32 0 ≡ table 32 from (λ i. cond (leb from i) (f i) 0)
+from-none from f =
+    table-ext 32 from (λ i. cond (leb from i) (f i) 0) (replicate 32 0) (length-replicate {A = ℕ} 32 0)
+    (λ i b l. getD-replicate 32 i 0 0 b ∙ sym (ap (λ (t : Bool). cond t (f i) 0) (lt-leb from i l))) (λ i b l. getD-replicate 32 i 0 0 b)
+
+pub from-more : (from i v : ℕ) (f : ℕ → ℕ) (l : List ℕ) → from ≤ i → i < 32 → l ≡ table 32 i (λ i. cond (leb from i) (f i) 0) → v ≡ f i
+    → set l i v ≡ table 32 (i + 1) (λ i. cond (leb from i) (f i) 0)
+from-more from i v f l h k e q =
+    table-more 32 i (λ i. cond (leb from i) (f i) 0) l v k e (q ∙ sym (ap (λ (t : Bool). cond t (f i) 0) (le-leb from i h)))

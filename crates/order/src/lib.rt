@@ -1,24 +1,20 @@
 // The waiting order of a clause record.
 ghost use mathlib.Core.Path.{_≡_};
 ghost use mathlib.Core.Bool.{cond};
-ghost use Prim.Native.Nat.{_<_, _≤_};
+ghost use Prim.Native.Nat.{_-_, _<_, _≤_};
 ghost use denote.Ref.{now};
+ghost use lib.ListN.{getD};
 ghost use Rattle.sets.specs.Sets as S;
 ghost use Rattle.record.specs.Fields as F;
 ghost use Rattle.order.specs.Order as O;
 ghost use Rattle.order.specs.Arrays as W;
 use graph::Graph;
 
-// The set with i in it where it is to be added.
-fn with(set: u32, i: usize, add: bool) -> u32
-    requires { ⌜ i < 32 ⌝ }
-    ensures { λ r. ⌜ r ≡ cond add (S.union set (S.single i)) set ⌝ }
+// The set with the members of `one` in it where they are to be added.
+fn with(set: u64, one: u64, add: bool) -> u64
+    ensures { λ r. ⌜ r ≡ cond add (S.union set one) set ⌝ }
 {
-    if add {
-        sets::union32(set, sets::single32(i))
-    } else {
-        set
-    }
+    if add { sets::union(set, one) } else { set }
 }
 
 // The goals that wait for goal i + 1. The facts `ground` and `free` are those at this goal, the earlier one of each pair.
@@ -28,28 +24,44 @@ fn wait_row(i: usize, n: usize, ground: u64, free: u64, goals: &[u64; 32], rows:
 {
     let a = goals[i];
     let apart = judge::apart(a, ground, free, rows);
-    let mut row = 0;
+    let mut row = 0u64;
+    let mut one = 2u64 << i;
     let mut j = i + 1;
     while j < n {
         let waits = judge::waits(a, goals[j], ground, free, rows, apart);
-        row = with(row, j, waits);
+        row = with(row, one, waits);
+        one = 2 * one;
         j += 1;
     }
-    row
+    row as u32
 }
 
-// The waits of n goals. In version 1 every goal has the header's ground set, and no variable is known independent of every other.
-fn wait_rows(n: usize, ground: u64, goals: &[u64; 32], rows: &[u64; 64]) -> Graph
-    requires { ⌜ n ≤ 32 ⌝ }
-    ensures { λ r. ⌜ r ≡ W.waitRows n ground (now (goals .entry)) (now (rows .entry)) ⌝ }
+// The waits for those of n goals that come after the first `from`. In version 1 every goal has the header's ground set, and no variable is known independent
+// of every other.
+fn wait_rows(from: usize, n: usize, ground: u64, goals: &[u64; 32], rows: &[u64; 64]) -> Graph
+    requires { ⌜ (from ≤ n) × (n ≤ 32) ⌝ }
+    ensures { λ r. ⌜ r ≡ W.waitRows from n ground (now (goals .entry)) (now (rows .entry)) ⌝ }
 {
-    let mut waits = [0u32; 32];
-    let mut i = 0;
+    let mut waits = Graph::empty(n);
+    let mut i = from;
     while i < n {
-        waits[i] = wait_row(i, n, ground, 0, goals, rows);
+        waits.rows[i] = wait_row(i, n, ground, 0, goals, rows);
         i += 1;
     }
-    Graph { n, rows: waits }
+    waits
+}
+
+// The waits of a record for the goals that come after the first `from`, before closure.
+fn waits_from(b: &[u8], from: usize) -> Graph
+    requires { ⌜ (F.goalCount (now b) ≤ 32) × (from ≤ F.goalCount (now b)) ⌝ }
+    ensures { λ r. ⌜ r ≡ W.waitingFrom from (now (b .entry)) ⌝ }
+{
+    let n = fields::size_of(fields::byte(b, 5));
+    let ground = fields::set_at(b, 16);
+    let mut goals = [0u64; 32];
+    let at = clause::goal_sets(b, &mut goals);
+    let rows = clause::pair_rows(b, at);
+    wait_rows(from, n, ground, &goals, &rows)
 }
 
 // The waits of a record, before closure.
@@ -57,10 +69,7 @@ pub fn waits_of(b: &[u8]) -> Graph
     requires { ⌜ F.goalCount (now b) ≤ 32 ⌝ }
     ensures { λ r. ⌜ r ≡ W.waiting (now (b .entry)) ⌝ }
 {
-    let c = clause::decode(b);
-    let goals = c.sets;
-    let rows = c.rows;
-    wait_rows(c.n, c.ground, &goals, &rows)
+    waits_from(b, 0)
 }
 
 // The order of a record.
@@ -70,4 +79,14 @@ pub fn order_of(b: &[u8]) -> Graph
 {
     let g = waits_of(b);
     closure::close(g)
+}
+
+// The goals that goal g is before. Chains lead from it to later goals only: the waits for earlier goals are not looked for.
+pub fn after(b: &[u8], g: usize) -> u32
+    requires { ⌜ (F.goalCount (now b) ≤ 32) × (1 ≤ g) × (g ≤ F.goalCount (now b)) ⌝ }
+    ensures { λ r. ⌜ r ≡ getD (O.order (now (b .entry)) .rows) (g - 1) 0 ⌝ }
+{
+    let waits = waits_from(b, g - 1);
+    let closed = closure::close(waits);
+    closed.rows[g - 1]
 }

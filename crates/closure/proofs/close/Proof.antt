@@ -1,61 +1,89 @@
 use borrow.Author.Needs.{needs}
 use native.Mathlib.Omega.{arith}
-use mathlib.Core.Path.{_≡_, ap, _∙_}
+use mathlib.Core.Path.{_≡_, ap, ap₂, _∙_}
 use mathlib.Core.List.{List}
-use Prim.Native.Nat.{ℕ, _≤_, _-_}
-use Rattle.expression.specs.Closure.{closed}
-use Rattle.graph.specs.Graph.{ahead, rowsOf}
+use Prim.Native.Nat.{ℕ, _≤_}
+use Rattle.graph.specs.Graph.{rowsOf}
+use Rattle.graph.specs.declared.Graph.{Graph}
 use Rattle.closure.specs.Closing.{closing}
-use Rattle.closure.proofs.Chains.{chains-more, chains-within}
+use Rattle.closure.proofs.Chains.{above, above-none, above-turn, above-all, above-closed}
 use Rattle.closure.proofs.close.Statement.{statement}
 use Rattle.closure.proofs.close.Tie as tie
-use Rattle.closure.proofs.close.Reads as reads
-use Rattle.closure.proofs.close.Lts as lts
-use Rattle.closure.proofs.through.Reads as through-reads
 
 abbrev Inv-loop : tie.InvT-loop
-Inv-loop n rows₀ k₀ rows k = (k ≤ n) × (rows ≡ rowsOf n (closed (ahead rows₀) k))
+Inv-loop g closed₀ k₀ closed k = (k ≤ g .n) × (closed .n ≡ g .n) × (closed .rows ≡ rowsOf (g .n) (above (g .n) (g .rows) k))
 
 abbrev μ-loop : tie.MeasureT-loop
-μ-loop n rows₀ k₀ rows k = n - k
+μ-loop g closed₀ k₀ closed k = k
 
--- src/lib.rt:37:5
+empty-requires : tie.Need-empty-requires Inv-loop μ-loop
+empty-requires c κs = search needs
+
 loop-holds : tie.Need-loop-holds Inv-loop μ-loop
-loop-holds c = (omega arith, c .before .pre .1)
+loop-holds c =
+    let s = c .before in
+    let g = s .args .t1 in
+    (omega arith, ap (λ (x : Graph). x .n) (c .empty .ensures), ap (λ (x : Graph). x .rows) (c .empty .ensures) ∙ above-none (g .n) (g .rows) (s .pre .0) (s .pre .1) (s .pre .2))
 
--- src/lib.rt:38:9
-through-requires : tie.Need-through-requires Inv-loop μ-loop
-through-requires c κs =
-    let s = c .before .before .before .before in
-    let l = c .before .before .loop in
-    (omega arith, s .pre .0, chains-within _ (l .k) _ (l .rows) (s .pre .0) (l .inv .1))
+sub-k : tie.Need-sub-k Inv-loop μ-loop
+sub-k c = search needs
 
--- src/lib.rt:39:9
-add-k : tie.Need-add-k Inv-loop μ-loop
-add-k c = search needs
+mul-reached : tie.Need-mul-reached Inv-loop μ-loop
+mul-reached c = omega arith
 
--- src/lib.rt:37:5
+element-copy-out-reached : tie.Need-element-copy-out-reached Inv-loop μ-loop
+element-copy-out-reached c = omega arith
+
+reached-requires : tie.Need-reached-requires Inv-loop μ-loop
+reached-requires c κs =
+    let s = c .before .before .before .before .before .before in
+    let g = s .args .t1 in
+    let l = c .before .before .before .before .loop in
+    above-closed (g .n) (g .rows) (s .pre .0) (s .pre .1) (s .pre .2) (l .k) (l .closed .rows) (l .inv .2)
+
+mul-closed : tie.Need-mul-closed Inv-loop μ-loop
+mul-closed c = omega arith
+
+element-write-closed : tie.Need-element-write-closed Inv-loop μ-loop
+element-write-closed c = omega arith
+
 loop-less : tie.Need-loop-less Inv-loop μ-loop
-loop-less c = search needs
+loop-less c = omega arith
 
--- src/lib.rt:37:5
 loop-again : tie.Need-loop-again Inv-loop μ-loop
 loop-again c =
-    let s = c .before .before .before .before .before in
-    let l = c .before .before .before .loop in
-    (omega arith, c .through .ensures ∙ chains-more _ (l .k) _ (l .rows) (omega arith) (s .pre .0) (l .inv .1))
+    let s = c .before .before .before .before .before .before .before in
+    let g = s .args .t1 in
+    let l = c .before .before .before .before .before .loop in (
+      omega arith,
+      l .inv .1,
+      above-turn (g .n) (g .rows) (s .pre .0) (s .pre .1) (s .pre .2) (l .k) (c .reached .result) (l .closed .rows) (omega arith) (l .inv .0) (l .inv .2) (c .reached .ensures),
+    )
 
--- src/lib.rt:30:1
 returns : tie.Need-returns Inv-loop μ-loop
 unfolding closing
 returns c =
     let s = c .before .before .before in
+    let g = s .args .t1 in
     let l = c .before .loop in
-    let e : l .k ≡ s .args .g .n = omega arith in
-    ap (λ (x : List ℕ). record { n = s .args .g .n; rows = x })
-    (l .inv .1 ∙ ap (λ (m : ℕ). rowsOf (s .args .g .n) (closed (ahead (s .args .g .rows)) m)) e)
+    let e : l .k ≡ 0 = omega arith in
+    ap₂ (λ (x : ℕ) (y : List ℕ). record { n = x; rows = y }) (l .inv .1)
+    (l .inv .2 ∙ ap (λ (m : ℕ). rowsOf (g .n) (above (g .n) (g .rows) m)) e ∙ above-all (g .n) (g .rows) (s .pre .0) (s .pre .1) (s .pre .2))
 
 pub close-spec : {M : Type 1} → statement M
 close-spec =
     tie.close
-    (tie.spec Inv-loop μ-loop loop-holds through-requires add-k loop-less loop-again returns)
+    (tie.spec
+    Inv-loop
+    μ-loop
+    empty-requires
+    loop-holds
+    sub-k
+    mul-reached
+    element-copy-out-reached
+    reached-requires
+    mul-closed
+    element-write-closed
+    loop-less
+    loop-again
+    returns)

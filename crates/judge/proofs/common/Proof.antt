@@ -3,7 +3,7 @@ use denote.Ref.{now}
 use mathlib.Core.Path.{_≡_, sym, ap, _∙_}
 use Prim.Native.Nat.{_<_, _^_}
 use native.Mathlib.Omega.{arith}
-use lib.ListN.{length, getD}
+use lib.ListN.{length}
 use Rattle.sets.specs.Sets.{meet, members}
 use Rattle.sets.proofs.Members.{fewer, first-in}
 use Rattle.sets.proofs.Builder.{meet-lt, without-lt}
@@ -11,13 +11,6 @@ use Rattle.judge.specs.ByRows as J
 use Rattle.judge.proofs.CommonRow.{below-lt, common-start, common-more, common-end}
 use Rattle.judge.proofs.common.Statement.{statement}
 use Rattle.judge.proofs.common.Tie as tie
-use Rattle.judge.proofs.common.Reads as reads
-use Rattle.judge.proofs.common.Lts as lts
-use Rattle.sets.proofs.below.Reads as below-reads
-use Rattle.sets.proofs.first.Reads as first-reads
-use Rattle.sets.proofs.meet.Reads as meet-reads
-use Rattle.sets.proofs.single.Reads as single-reads
-use Rattle.sets.proofs.without.Reads as without-reads
 
 abbrev Inv-loop : tie.InvT-loop
 Inv-loop set rows all₀ rest₀ all rest = (rest < 2 ^ 64) × (all < 2 ^ 64) × (meet all (J.common rows 64 rest) ≡ J.common rows 64 set)
