@@ -1,5 +1,6 @@
 use borrow.Author.Needs.{needs}
-use Rattle.reading.specs.Reading as R
+use denote.Ref.{now}
+use Rattle.goals.proofs.Steps.{steps}
 use Rattle.goals.proofs.goal.Statement.{statement}
 use Rattle.goals.proofs.goal.Tie as tie
 
@@ -40,8 +41,11 @@ also-requires-5 : tie.Need-also-requires-5
 also-requires-5 c κs = search needs
 
 returns : tie.Need-returns
-unfolding R.goal
-returns c = cc
+returns c =
+    let a = c .before .before .before .before .before .before .before .before .before .args in
+    let p = c .before .before .before .before .before .before .before .before .before .pre in
+    steps (now (a .b)) (a .at) (a .v) (a .k) (a .s) (p .2) (p .3) _ _ _ _ _ _ _ _ (c .before .before .before .before .before .before .before .first-bad .ensures) (c .before .before .before .before .before .set-at .ensures) (c .before .before .before .before .within .ensures)
+    (c .before .before .before .before .before .before .also .ensures) (c .before .before .before .also2 .ensures) (c .before .before .also3 .ensures) (c .before .also4 .ensures) (c .also5 .ensures)
 
 pub goal-spec : {M : Type 1} → statement M
 goal-spec =

@@ -1,5 +1,6 @@
 use borrow.Author.Needs.{needs}
-use Rattle.reading.specs.Reading as R
+use denote.Ref.{now}
+use Rattle.header.proofs.Steps.{count-steps}
 use Rattle.header.proofs.counts.Statement.{statement}
 use Rattle.header.proofs.counts.Tie as tie
 
@@ -31,8 +32,9 @@ also-requires-5 : tie.Need-also-requires-5
 also-requires-5 c κs = search needs
 
 returns : tie.Need-returns
-unfolding R.counts R.versionOne
-returns c = cc
+returns c =
+    count-steps (now (c .before .before .before .before .before .before .before .before .before .before .args .b)) _ _ _ _ _ _ _ _ _ (c .before .before .before .before .before .before .number .ensures) (c .before .before .before .before .number2 .ensures) (c .before .before .before .before .before .before .before .before .byte .ensures) (c .before .byte2 .ensures)
+    (c .before .before .before .before .before .before .before .also .ensures) (c .before .before .before .before .before .also2 .ensures) (c .before .before .before .also3 .ensures) (c .before .before .also4 .ensures) (c .also5 .ensures)
 
 pub counts-spec : {M : Type 1} → statement M
 counts-spec =

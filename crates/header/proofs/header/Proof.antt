@@ -1,5 +1,7 @@
+use mathlib.Core.Path.{_∙_}
 use borrow.Author.Needs.{needs}
-use Rattle.reading.specs.Reading as R
+use denote.Ref.{now}
+use Rattle.header.proofs.Steps.{set-steps}
 use Rattle.header.proofs.header.Statement.{statement}
 use Rattle.header.proofs.header.Tie as tie
 
@@ -31,8 +33,9 @@ also-requires-2 : tie.Need-also-requires-2
 also-requires-2 c κs = search needs
 
 returns : tie.Need-returns
-unfolding R.header
-returns c = cc
+returns c =
+    set-steps (now (c .before .before .before .before .before .before .before .before .before .before .args .b)) _ _ _ _ _ _ _ _ (c .before .before .before .before .before .before .before .small .ensures .0 ∙ c .before .before .before .before .before .before .before .before .byte .ensures) (c .before .before .before .before .before .before .set-at .ensures) (c .before .before .set-at2 .ensures)
+    (c .before .before .before .before .within .ensures) (c .before .subset .ensures) (c .before .before .before .before .before .counts .ensures) (c .before .before .before .also .ensures) (c .also2 .ensures)
 
 pub header-spec : {M : Type 1} → statement M
 header-spec =

@@ -1,5 +1,7 @@
+use mathlib.Core.Path.{_∙_}
 use borrow.Author.Needs.{needs}
-use Rattle.reading.specs.Reading as R
+use denote.Ref.{now}
+use Rattle.pairs.proofs.Steps.{end-step}
 use Rattle.pairs.proofs.ending.Statement.{statement}
 use Rattle.pairs.proofs.ending.Tie as tie
 
@@ -22,8 +24,9 @@ also-requires : tie.Need-also-requires
 also-requires c κs = search needs
 
 returns : tie.Need-returns
-unfolding R.ending
-returns c = cc
+returns c =
+    let a = c .before .before .before .before .before .args in
+    end-step (now (a .b)) (a .from) _ (a .s) _ _ (c .before .before .before .before .before .pre .2) (c .before .before .size-of .ensures .0 ∙ c .before .before .before .byte .ensures) (c .before .pairs .ensures) (c .also .ensures)
 
 pub ending-spec : {M : Type 1} → statement M
 ending-spec =
