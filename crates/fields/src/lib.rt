@@ -47,7 +47,7 @@ pub fn number(b: &[u8], at: usize, k: usize) -> u64
 }
 
 // The variable set at `at`, whose bytes are all there: one load.
-fn whole_set(b: &[u8], at: usize) -> u64
+pub fn whole_set(b: &[u8], at: usize) -> u64
     requires { ⌜ at + 8 ≤ length (now b) ⌝ }
     ensures { λ r. ⌜ r ≡ F.set (now (b .entry)) at ⌝ }
 {

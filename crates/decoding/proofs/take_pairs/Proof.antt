@@ -1,0 +1,178 @@
+use Prim.Native.Nat.{ℕ, _≤_, _<_, _*_, _+_, _-_}
+use mathlib.Core.Path.{_≡_, sym, ap, _∙_}
+use mathlib.Core.Bool.{true, _&&_, true≢false, false≢true}
+use native.Mathlib.Omega.{arith}
+use lib.Dec.{ltb}
+use borrow.Author.Needs.{needs}
+use borrow.Author.Tests.{ltb-true}
+use denote.Ref.{now}
+use Rattle.logic.proofs.Bools.{and-l, and-r}
+use Rattle.fields.specs.Fields as F
+use Rattle.pairs.specs.Order as O
+use Rattle.pairs.proofs.Turns as T
+use Rattle.pairs.proofs.Turns.{last-zero, last-turn, order-zero, order-none}
+use Rattle.clause.proofs.Pairs.{rowsAfter, rows-zero, rows-turn, rows-all}
+use Rattle.decoding.proofs.Pairs.{pair-so, pair-ill}
+use Rattle.decoding.proofs.take_pairs.Statement.{statement}
+use Rattle.decoding.proofs.take_pairs.Tie as tie
+
+abbrev Inv-loop : tie.InvT-loop
+Inv-loop b from v p rows₀ last₀ k₀ rows last k = (k ≤ p) × (rows ≡ rowsAfter b k) × (last ≡ T.last b k) × (O.inOrder b k ≡ true)
+
+abbrev μ-loop : tie.MeasureT-loop
+μ-loop b from v p rows₀ last₀ k₀ rows last k = p - k
+
+-- both variables of the pair are below 64
+below : (c : tie.Then1 Inv-loop μ-loop) → (c .before .before .before .small .result < 64) × (c .before .small2 .result < 64)
+below c =
+    let low = c .before .before .before .small .result in
+    let high = c .before .small2 .result in
+    let s = c .before .before .before .before .before .before .before .before in
+    let v : s .args .v ≤ 64 = s .pre .1 in
+    let o : ltb low high && ltb high (s .args .v) ≡ true = and-l _ _ (c .if1 .taken) in
+    let l : low < high = ltb-true low high (and-l _ _ o) in
+    let h : high < s .args .v = ltb-true high (s .args .v) (and-r (ltb low high) _ o) in
+    (omega arith, omega arith)
+
+loop-holds : tie.Need-loop-holds Inv-loop μ-loop
+loop-holds c = (omega arith, c .before .pre .5 ∙ rows-zero _, last-zero _, sym (order-zero _))
+
+mul-at : tie.Need-mul-at Inv-loop μ-loop
+mul-at c = omega arith
+
+add-at : tie.Need-add-at Inv-loop μ-loop
+add-at c = omega arith
+
+shared-slice-read-small : tie.Need-shared-slice-read-small Inv-loop μ-loop
+shared-slice-read-small c = omega arith
+
+small-requires : tie.Need-small-requires Inv-loop μ-loop
+small-requires c κs = search needs
+
+add-small : tie.Need-add-small Inv-loop μ-loop
+add-small c = omega arith
+
+shared-slice-read-small-2 : tie.Need-shared-slice-read-small-2 Inv-loop μ-loop
+shared-slice-read-small-2 c = omega arith
+
+small-requires-2 : tie.Need-small-requires-2 Inv-loop μ-loop
+small-requires-2 c κs = search needs
+
+mul-key : tie.Need-mul-key Inv-loop μ-loop
+mul-key c = omega arith
+
+add-key : tie.Need-add-key Inv-loop μ-loop
+add-key c = omega arith
+
+cast-i : tie.Need-cast-i Inv-loop μ-loop
+cast-i c = omega arith
+
+cast-j : tie.Need-cast-j Inv-loop μ-loop
+cast-j c = omega arith
+
+mul-rows : tie.Need-mul-rows Inv-loop μ-loop
+mul-rows c = omega arith
+
+element-copy-out-rows : tie.Need-element-copy-out-rows Inv-loop μ-loop
+element-copy-out-rows c = omega (arith, below c)
+
+shl-rows : tie.Need-shl-rows Inv-loop μ-loop
+shl-rows c = omega (arith, below (c .before))
+
+mul-rows-2 : tie.Need-mul-rows-2 Inv-loop μ-loop
+mul-rows-2 c = omega arith
+
+element-write-rows : tie.Need-element-write-rows Inv-loop μ-loop
+element-write-rows c = omega (arith, below (c .before))
+
+mul-rows-3 : tie.Need-mul-rows-3 Inv-loop μ-loop
+mul-rows-3 c = omega arith
+
+element-copy-out-rows-2 : tie.Need-element-copy-out-rows-2 Inv-loop μ-loop
+element-copy-out-rows-2 c = omega (arith, below (c .before))
+
+shl-rows-2 : tie.Need-shl-rows-2 Inv-loop μ-loop
+shl-rows-2 c = omega (arith, below (c .before .before))
+
+mul-rows-4 : tie.Need-mul-rows-4 Inv-loop μ-loop
+mul-rows-4 c = omega arith
+
+element-write-rows-2 : tie.Need-element-write-rows-2 Inv-loop μ-loop
+element-write-rows-2 c = omega (arith, below (c .before .before))
+
+add-k : tie.Need-add-k Inv-loop μ-loop
+add-k c = omega arith
+
+loop-less : tie.Need-loop-less Inv-loop μ-loop
+loop-less c = omega arith
+
+loop-again : tie.Need-loop-again Inv-loop μ-loop
+loop-again c = let d = c .before .before in
+    let l = d .before .before .before .before .before .before .loop in
+    let s = d .before .before .before .before .before .before .before .before in
+    let b = now (s .args .b) in
+    let low = d .before .before .before .small .ensures .0 in
+    let high = d .before .small2 .ensures .0 in
+    let h = below d in
+    let place : s .args .from + 2 * l .k ≡ F.pairAt b (l .k) = ap (λ (x : ℕ). x + 2 * l .k) (s .pre .4) in (
+      omega arith,
+      rows-turn b (l .k) _ _ (l .rows) (h .0) (h .1) (low ∙ ap (F.byte b) place) (high ∙ ap (λ (x : ℕ). F.byte b (x + 1)) place) (l .inv .1),
+      last-turn b (s .args .from) _ _ (l .k) (s .pre .4) low high,
+      pair-so b (s .args .from) (s .args .v) _ _ (l .last) (l .k) (s .pre .4) (s .pre .2) low high (l .inv .2) (l .inv .3) (d .if1 .taken),
+    )
+
+returns : tie.Need-returns Inv-loop μ-loop
+returns c = let l = c .before .before .before .before .before .before .loop in
+    let s = c .before .before .before .before .before .before .before .before in
+    let b = now (s .args .b) in
+    let low = c .before .before .before .small .ensures .0 in
+    let high = c .before .small2 .ensures .0 in
+    let ill = pair-ill b (s .args .from) (s .args .v) _ _ (l .last) (l .k) (s .pre .4) (s .pre .2) low high (l .inv .2) (l .inv .3) (omega (arith, s .pre .3)) (c .if1 .left) in
+    (λ e. absurd (false≢true e), λ e. ill)
+
+returns-2 : tie.Need-returns-2 Inv-loop μ-loop
+returns-2 c = let l = c .before .loop in
+    let s = c .before .before .before in
+    let b = now (s .args .b) in
+    let e : l .k ≡ F.pairCount b = omega (arith, s .pre .3) in (
+      λ h.
+          record {
+            fine = λ r. sym (order-none b (F.pairCount b) r (omega (arith, s .pre .3, s .pre .4)) (sym (ap (O.inOrder b) e) ∙ l .inv .3));
+            stored = l .inv .1 ∙ rows-all b (l .k) e;
+          },
+      λ h. absurd (true≢false h),
+    )
+
+pub take-pairs-spec : {M : Type 1} → statement M
+take-pairs-spec =
+    tie.close
+    (tie.spec
+    Inv-loop
+    μ-loop
+    loop-holds
+    mul-at
+    add-at
+    shared-slice-read-small
+    small-requires
+    add-small
+    shared-slice-read-small-2
+    small-requires-2
+    mul-key
+    add-key
+    cast-i
+    cast-j
+    mul-rows
+    element-copy-out-rows
+    shl-rows
+    mul-rows-2
+    element-write-rows
+    mul-rows-3
+    element-copy-out-rows-2
+    shl-rows-2
+    mul-rows-4
+    element-write-rows-2
+    add-k
+    loop-less
+    loop-again
+    returns
+    returns-2)

@@ -1,0 +1,111 @@
+// Reads a record and decodes it in one pass.
+use reading::Reading;
+ghost use mathlib.Core.Path.{_≡_};
+ghost use mathlib.Core.Bool.{true, false};
+ghost use Prim.Native.Nat.{_+_, _*_, _<_, _≤_, _^_};
+ghost use lib.ListN.{length, replicate};
+ghost use Rattle.fields.specs.Fields as F;
+ghost use Rattle.reading.specs.Reading as R;
+ghost use Rattle.decoding.specs.Decoding as D;
+
+// Whether the goal that starts at `at`, with k text bytes, is as it must be.
+fn fine_goal(b: &[u8], at: usize, v: u32, k: usize) -> bool
+    requires { ⌜ (at < 2 ^ 32) × (k < 256) × (v ≡ F.varCount (now b)) × (k ≡ F.textLengthAt (now b) at) ⌝ }
+    ensures { λ r. ⌜ r ≡ D.fineGoal (now (b .entry)) at ⌝ }
+{
+    let text = at + 9;
+    if text + k <= b.len() {
+        if sets::within(fields::whole_set(b, at), v) & ((1 <= k) & (k <= 40)) {
+            return goals::clean(b, text, k);
+        }
+    }
+    false
+}
+
+// Stores the set of each of the n goals: where they end, or 0 if one of them is not as it must be.
+fn take_goals(b: &[u8], n: usize, v: u32, goals: &mut [u64; 32]) -> usize
+    requires { ⌜ (n ≤ 32) × (n ≡ F.goalCount (now b)) × (v ≡ F.varCount (now b)) × (now goals ≡ replicate 32 0) ⌝ }
+    ensures { λ r. ⌜ (0 < r → D.GoalsTaken (now (b .entry)) r (now (goals .exit))) ⌝ }
+    ensures { λ r. ⌜ (r ≡ 0 → D.Ill (now (b .entry))) ⌝ }
+    ensures { λ r. ⌜ r < 2 ^ 32 ⌝ }
+{
+    let mut at: usize = 24;
+    let mut g: usize = 0;
+    while g < n {
+        let k = fields::size_of(fields::byte(b, at + 8));
+        if fine_goal(b, at, v, k) {
+            let next = g + 1;
+            goals[g] = fields::whole_set(b, at);
+            at = at + 9 + k;
+            g = next;
+        } else {
+            return 0;
+        }
+    }
+    at
+}
+
+// Stores the p pairs, which stand from `from` on, in the rows: whether all are in order.
+fn take_pairs(b: &[u8], from: usize, v: u32, p: usize, rows: &mut [u64; 64]) -> bool
+    requires { ⌜ (from + 2 * p ≤ length (now b)) × (v ≤ 64) × (v ≡ F.varCount (now b)) × (p ≡ F.pairCount (now b)) × (from ≡ F.pairsPlace (now b)) × (now rows ≡ replicate 64 0) ⌝ }
+    ensures { λ r. ⌜ (r ≡ true → D.PairsTaken (now (b .entry)) (now (rows .exit))) ⌝ }
+    ensures { λ r. ⌜ (r ≡ false → D.Ill (now (b .entry))) ⌝ }
+{
+    let mut last: u32 = 0;
+    let mut k: usize = 0;
+    while k < p {
+        let at = from + 2 * k;
+        let low = fields::small(b[at]);
+        let high = fields::small(b[at + 1]);
+        let key = low * 256 + high;
+        if (low < high) & (high < v) & (last < key) {
+            let i = low as usize;
+            let j = high as usize;
+            rows[i] = rows[i] | (1u64 << j);
+            rows[j] = rows[j] | (1u64 << i);
+            last = key;
+            k += 1;
+        } else {
+            return false;
+        }
+    }
+    true
+}
+
+// Decodes what follows the header: whether all of it is as it must be.
+fn rest(b: &[u8], goals: &mut [u64; 32], rows: &mut [u64; 64]) -> bool
+    requires { ⌜ (F.goalCount (now b) ≤ 32) × (F.varCount (now b) ≤ 64) × (now goals ≡ replicate 32 0) × (now rows ≡ replicate 64 0) ⌝ }
+    ensures { λ r. ⌜ (r ≡ true → D.RestTaken (now (b .entry)) (now (goals .exit)) (now (rows .exit))) ⌝ }
+    ensures { λ r. ⌜ (r ≡ false → D.Ill (now (b .entry))) ⌝ }
+{
+    let n = fields::size_of(fields::byte(b, 5));
+    let v = fields::small(fields::byte(b, 6));
+    let p = fields::size_of(fields::byte(b, 7));
+    let at = take_goals(b, n, v, goals);
+    if at == 0 {
+        return false;
+    }
+    if at + 2 * p == b.len() {
+        return take_pairs(b, at, v, p, rows);
+    }
+    false
+}
+
+// Reads a record, and decodes it as it goes: the goals' variable sets and the rows of the listed pairs, into arrays of zeros. Where something is to be
+// refused, the reader of `record` finds out what; the arrays are then of no account.
+pub fn read(b: &[u8], goals: &mut [u64; 32], rows: &mut [u64; 64]) -> Reading
+    requires { ⌜ (now goals ≡ replicate 32 0) × (now rows ≡ replicate 64 0) ⌝ }
+    ensures { λ r. ⌜ r ≡ R.reading (now (b .entry)) ⌝ }
+    ensures { λ r. ⌜ D.Decoded (now (b .entry)) r (now (goals .exit)) (now (rows .exit)) ⌝ }
+{
+    let s = header::header(b);
+    match s {
+        Reading::Refused(r) => record::read(b),
+        Reading::Fine => {
+            if rest(b, goals, rows) {
+                return Reading::Fine;
+            }
+            record::read(b)
+        }
+    }
+}
