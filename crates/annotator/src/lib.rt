@@ -60,6 +60,7 @@ ghost use lib.Dec.{leb};
 ghost use Rattle.order.specs.Order.{before};
 ghost use Rattle.grammar.specs.Check.{checked};
 ghost use Rattle.fields.specs.Fields as F;
+ghost use Rattle.decoding.specs.Clause.{Holding};
 ghost use Rattle.form.specs.Form as P;
 ghost use Rattle.mel.specs.Annotation as M;
 ghost use Rattle.annotator.specs.Answers as W;
@@ -115,10 +116,12 @@ pub fn order(bytes: &[u8]) -> OrderAnswer
     ensures { λ r. ⌜ W.readValues (r .reading) ≡ W.read (now (bytes .entry)) ⌝ }
     ensures { λ r. ⌜ r .graph ≡ W.orderGraph (now (bytes .entry)) ⌝ }
 {
-    match record::read(bytes) {
+    let mut goals = [0u64; 32];
+    let mut pairs = [0u64; 64];
+    match decoding::read(bytes, &mut goals, &mut pairs) {
         Reading::Fine => {
             let reading = ReadAnswer::Accepted(goal_count(bytes));
-            let graph = order::order_of(bytes);
+            let graph = order::order_of(bytes, &goals, &pairs);
             OrderAnswer { reading, graph }
         }
         Reading::Refused(r) => {
@@ -201,9 +204,9 @@ pub fn goal_text(bytes: &[u8], goal: u32) -> &[u8]
     }
 }
 
-// Checks an expression's text against the order of an accepted record.
-fn check_text(bytes: &[u8], text: &[u8]) -> CheckAnswer
-    requires { ⌜ F.goalCount (now bytes) ≤ 32 ⌝ }
+// Checks an expression's text against the order of an accepted record, whose facts `goals` and `pairs` hold.
+fn check_text(bytes: &[u8], text: &[u8], goals: &[u64; 32], pairs: &[u64; 64]) -> CheckAnswer
+    requires { ⌜ (F.goalCount (now bytes) ≤ 32) × Holding (now bytes) (now goals) (now pairs) ⌝ }
     ensures { λ r. ⌜ W.checkValues r ≡ W.ruled (checked (F.goalCount (now (bytes .entry))) (before (now (bytes .entry))) (now (text .entry))) ⌝ }
 {
     let n = goal_count(bytes);
@@ -212,7 +215,7 @@ fn check_text(bytes: &[u8], text: &[u8]) -> CheckAnswer
     match outcome {
         Outcome::Refused(r) => CheckAnswer::Rejected(r),
         Outcome::Read => {
-            let graph = order::order_of(bytes);
+            let graph = order::order_of(bytes, goals, pairs);
             let drawn = answer.graph;
             let a = graph.rows;
             let b = drawn.rows;
@@ -225,8 +228,10 @@ fn check_text(bytes: &[u8], text: &[u8]) -> CheckAnswer
 pub fn check(bytes: &[u8], text: &[u8]) -> CheckAnswer
     ensures { λ r. ⌜ W.checkValues r ≡ W.check (now (bytes .entry)) (now (text .entry)) ⌝ }
 {
-    match record::read(bytes) {
+    let mut goals = [0u64; 32];
+    let mut pairs = [0u64; 64];
+    match decoding::read(bytes, &mut goals, &mut pairs) {
         Reading::Refused(r) => CheckAnswer::Rejected(r),
-        Reading::Fine => check_text(bytes, text),
+        Reading::Fine => check_text(bytes, text, &goals, &pairs),
     }
 }

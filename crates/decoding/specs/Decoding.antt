@@ -13,11 +13,11 @@ use Rattle.reading.specs.Reading as R
 use Rattle.reading.specs.Reading.{between, textLimit}
 use Rattle.goals.specs.Text.{clean}
 use Rattle.record.specs.WellFormed.{WellFormed}
-use Rattle.clause.specs.Clause.{goalSets, pairRows}
+use Rattle.decoding.specs.Clause.{goalSets, pairRows, Holding}
 
 -- where nothing is refused, the arrays hold the goals' variable sets and the rows of the listed pairs
 abbrev pub Decoded : List ℕ → Reading → List ℕ → List ℕ → Type 0
-Decoded b r goals rows = r ≡ Fine → (goals ≡ goalSets b) × (rows ≡ pairRows b)
+Decoded b r goals rows = r ≡ Fine → Holding b goals rows
 
 -- the goal that starts at a place is as it must be
 unfoldable pub fineGoal : List ℕ → ℕ → Bool

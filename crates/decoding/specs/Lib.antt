@@ -1,1 +1,2 @@
+pub mod Clause
 pub mod Decoding

@@ -5,6 +5,7 @@ use annotator::TextAnswer;
 use compare::Verdict;
 use first_n::Four;
 use graph::Graph;
+use reading::Reading;
 use refusal::Refusal;
 ghost use Prim.Native.Nat.{_≤_};
 ghost use lib.ListN.{length};
@@ -180,13 +181,11 @@ fn run_check(bytes: &[u8], text: &[u8]) {
 
 // The waits of a record before closure.
 fn run_waits(bytes: &[u8]) {
-    match annotator::read(bytes) {
-        ReadAnswer::Accepted(_) => {
-            if fields::byte(bytes, 5) <= 32 {
-                say_graph(order::waits_of(bytes));
-            }
-        }
-        ReadAnswer::Refused(r) => say_refusal(r),
+    let mut goals = [0u64; 32];
+    let mut pairs = [0u64; 64];
+    match decoding::read(bytes, &mut goals, &mut pairs) {
+        Reading::Fine => say_graph(order::waits_of(bytes, &goals, &pairs)),
+        Reading::Refused(r) => say_refusal(r),
     }
 }
 

@@ -13,6 +13,7 @@ ghost use Rattle.expression.specs.Arrange.{Strict, formAny};
 ghost use Rattle.expression.specs.Search.{firstN};
 ghost use Rattle.expression.specs.Text as T;
 ghost use Rattle.fields.specs.Fields.{goalCount};
+ghost use Rattle.decoding.specs.Clause.{Holding};
 ghost use Rattle.order.specs.Order as O;
 ghost use Rattle.form.specs.Form as F;
 
@@ -86,12 +87,12 @@ fn length_rows(rows: &[u32; 32], n: usize) -> Estimate
     }
 }
 
-// The record's order. 01: "the closure is taken first".
-fn closed(b: &[u8]) -> Graph
-    requires { ⌜ goalCount (now b) ≤ 32 ⌝ }
+// The record's order, whose facts `goals` and `pairs` hold. 01: "the closure is taken first".
+fn closed(b: &[u8], goals: &[u64; 32], pairs: &[u64; 64]) -> Graph
+    requires { ⌜ (goalCount (now b) ≤ 32) × Holding (now b) (now goals) (now pairs) ⌝ }
     ensures { λ r. ⌜ r ≡ O.order (now (b .entry)) ⌝ }
 {
-    order::order_of(b)
+    order::order_of(b, goals, pairs)
 }
 
 // Writes the form of a record into a lent buffer.
@@ -99,13 +100,14 @@ pub fn write(b: &[u8], out: &mut [u8]) -> Written
     ensures { λ r. ⌜ F.values r ≡ F.answer (F.plan (now (b .entry))) (now (out .entry)) ⌝ }
     ensures { λ r. ⌜ now (out .exit) ≡ F.filled (F.plan (now (b .entry))) (now (out .entry)) ⌝ }
 {
-    let s = record::read(b);
+    let mut goals = [0u64; 32];
+    let mut pairs = [0u64; 64];
+    let s = decoding::read(b, &mut goals, &mut pairs);
     match s {
         Reading::Refused(r) => Written::Refused(r),
         Reading::Fine => {
-            let g = closed(b);
-            let rows = g.rows;
-            write_rows(&rows, g.n, out)
+            let g = closed(b, &goals, &pairs);
+            write_rows(&g.rows, g.n, out)
         }
     }
 }
@@ -114,13 +116,14 @@ pub fn write(b: &[u8], out: &mut [u8]) -> Written
 pub fn length(b: &[u8]) -> Estimate
     ensures { λ r. ⌜ F.Estimated (F.plan (now (b .entry))) (F.estimate r) ⌝ }
 {
-    let s = record::read(b);
+    let mut goals = [0u64; 32];
+    let mut pairs = [0u64; 64];
+    let s = decoding::read(b, &mut goals, &mut pairs);
     match s {
         Reading::Refused(r) => Estimate::Refused(r),
         Reading::Fine => {
-            let g = closed(b);
-            let rows = g.rows;
-            length_rows(&rows, g.n)
+            let g = closed(b, &goals, &pairs);
+            length_rows(&g.rows, g.n)
         }
     }
 }

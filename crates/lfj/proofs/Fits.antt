@@ -18,14 +18,14 @@ use Rattle.sets.specs.Sets.{has, count}
 use Rattle.sets.proofs.Laws.{member-below}
 use Rattle.sets.proofs.Builder.{members-lt}
 use Rattle.text.specs.Lent.{fits}
-use Rattle.fields.specs.Fields.{goalCount, goalSet}
+use Rattle.fields.specs.Fields.{goalCount, headSet, groundSet, goalSet}
 use Rattle.reading.specs.declared.Reading.{Reading}
 use Rattle.reading.specs.declared.Reading.the-variants.{Fine, Refused as Unread}
 use Rattle.reading.specs.Reading.{reading}
 use Rattle.record.specs.WellFormed.{WellFormed}
 use Rattle.record.proofs.WellFormed.{fine-well-formed}
 use Rattle.record.proofs.Limits.{set-fits}
-use Rattle.clause.specs.Clause.{goalSets, clause}
+use Rattle.decoding.specs.Clause.{goalSets, pairRows}
 use Rattle.order.specs.Order.{before}
 use Rattle.expression.specs.Expr.{Expr}
 use Rattle.expression.specs.Expr as E
@@ -45,7 +45,7 @@ use Rattle.stages.proofs.Masks.{has-once}
 use Rattle.mel.specs.Annotation as M
 use Rattle.mel.specs.Annotation.{mel, melAnswer}
 use Rattle.mel.proofs.Bound.{text-most, count-width, square, product}
-use Rattle.mel.proofs.Record.{clause-text, clause-length}
+use Rattle.mel.proofs.Record.{facts-text, facts-length}
 use Rattle.annotator.specs.Answers.{afterReading, noRecord, read, noText, textOf, goalText, noCheck, saying, ruled, check}
 use Rattle.lfj.specs.Words.{noGoals, goalsAfter, after, formWord, melWord}
 use Rattle.lfj.proofs.Refusals.{refusal-place}
@@ -104,10 +104,10 @@ module _ (b : List ℕ) where
   -- ---- MEL: crate mel's bound on its length
   module _ (w : WellFormed b) where
     abbrev sets : List ℕ
-    sets = take (clause b .n) (clause b .sets)
+    sets = take (goalCount b) (goalSets b)
 
     goal-is : (g : ℕ) → 0 < g → g ≤ goalCount b → goal sets g ≡ goalSet b g
-    unfolding goal clause goalSets
+    unfolding goal goalSets
     goal-is g l h =
         let i : suc (g - 1) ≡ g = omega arith in
         getD-take (goalCount b) (goalSets b) (g - 1) 0 (omega arith)
@@ -118,25 +118,25 @@ module _ (b : List ℕ) where
     vars-fit =
         members-lt 64 (once sets 0 (length sets)) (λ x e.
         let s = occurs-out sets 0 (length sets) x (sym (has-once sets 0 (length sets) x) ∙ e) in
-        let n = clause-length b (w .goals-to) (clause b) refl in
+        let n = facts-length b (w .goals-to) (goalCount b) (goalSets b) refl refl in
         let h : s .g ≤ goalCount b = omega (arith, s .upto, n) in
         member-below 64 (goalSet b (s .g)) x (set-fits b w (s .g) (s .above) h) (ap (λ (m : ℕ). has m x) (sym (goal-is (s .g) (s .above) h)) ∙ s .so))
 
     mel-short : length (mel b) < 2 ^ 32
     mel-short =
-        let c = clause b in
+        let n = facts-length b (w .goals-to) (goalCount b) (goalSets b) refl refl in
         let m = once sets 0 (length sets) in
         let v = count m in
         let each = 15 * (v + v * v) in
         omega (
           arith,
           w .goals-to,
-          ap length (clause-text b (w .goals-to) c refl),
-          clause-length b (w .goals-to) c refl,
-          text-most (c .head) sets (replicate 32 (c .ground)) (c .rows) m vars-fit refl,
+          ap length (facts-text b (w .goals-to) (goalCount b) (headSet b) (groundSet b) (goalSets b) (pairRows b) refl refl refl (refl, refl)),
+          n,
+          text-most (headSet b) sets (replicate 32 (groundSet b)) (pairRows b) m vars-fit refl,
           count-width m vars-fit,
           square v (count-width m vars-fit),
-          product (length sets) each (omega (arith, w .goals-to, clause-length b (w .goals-to) c refl)),
+          product (length sets) each (omega (arith, w .goals-to, n)),
         )
 
   abbrev MelFits : M.Values → Type 0

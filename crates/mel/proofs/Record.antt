@@ -14,8 +14,7 @@ use Rattle.sets.specs.Sets.{has, setOf}
 use Rattle.sets.proofs.Laws.{has-empty}
 use Rattle.sets.proofs.Builder.{has-setOf-in}
 use Rattle.judge.specs.Independence.{knownIndependent}
-use Rattle.clause.specs.declared.Clause as D
-use Rattle.clause.specs.Clause.{goalSets, pairRows, clause}
+use Rattle.decoding.specs.Clause.{goalSets, pairRows, Holding}
 use Rattle.fields.specs.Fields.{goalCount, headSet, groundSet, goalSet, listed}
 use Rattle.stages.specs.Mel.{Clause, goal, goalsFrom}
 use Rattle.stages.specs.Masks.{given}
@@ -89,22 +88,19 @@ module _ (b : List ℕ) where
         ap (λ (m : ℕ). has (goal (pairRows b) (x + 1)) y || has m x || has m y) (ground-at n z (omega (arith, u, sets-length)))
         ∙ known-is (has (goal (pairRows b) (x + 1)) y) (groundSet b) x y (row-at x y lx ly))
 
-    -- the text that the code writes, given the clause by value
-    pub clause-text : (c : D.Clause) → c ≡ clause b → melText (c .head) (take (c .n) (c .sets)) (replicate 32 (c .ground)) (c .rows) ≡ mel b
-    unfolding clause
-    clause-text c e =
-        ap (λ (d : D.Clause). melText (d .head) (take (d .n) (d .sets)) (replicate 32 (d .ground)) (d .rows)) e
-        ∙ ap (λ (l : List ℕ). melText (headSet b) l (replicate 32 (groundSet b)) (pairRows b)) (front-sets h)
-        ∙ one-text
+    -- the text that the code writes, given the record's facts
+    pub facts-text : (n head ground : ℕ) (goals rows : List ℕ) → n ≡ goalCount b → head ≡ headSet b → ground ≡ groundSet b → Holding b goals rows
+        → melText head (take n goals) (replicate 32 ground) rows ≡ mel b
+    facts-text n head ground goals rows en eh eg (es, er) =
+        rw (en, eh, eg, es, er) (ap (λ (l : List ℕ). melText (headSet b) l (replicate 32 (groundSet b)) (pairRows b)) (front-sets h) ∙ one-text)
 
-    pub clause-length : (c : D.Clause) → c ≡ clause b → length (take (c .n) (c .sets)) ≡ goalCount b
-    unfolding clause
-    clause-length c e = ap (λ (d : D.Clause). length (take (d .n) (d .sets))) e ∙ ap length (front-sets h) ∙ sets-length
+    pub facts-length : (n : ℕ) (goals : List ℕ) → n ≡ goalCount b → goals ≡ goalSets b → length (take n goals) ≡ goalCount b
+    facts-length n goals en es = rw (en, es) (ap length (front-sets h) ∙ sets-length)
 
-pub clause-count : (b : List ℕ) (c : D.Clause) → c ≡ clause b → c .n ≡ goalCount b
-unfolding clause
-clause-count b c e = ap (λ (d : D.Clause). d .n) e
+pub facts-room : (b goals : List ℕ) → goals ≡ goalSets b → length goals ≡ 32
+unfolding goalSets
+facts-room b goals es = ap length es ∙ table-length 32 (goalCount b) (λ i. goalSet b (suc i))
 
-pub clause-room : (b : List ℕ) (c : D.Clause) → c ≡ clause b → length (c .sets) ≡ 32
-unfolding clause goalSets
-clause-room b c e = ap (λ (d : D.Clause). length (d .sets)) e ∙ table-length 32 (goalCount b) (λ i. goalSet b (suc i))
+pub facts-rows : (b rows : List ℕ) → rows ≡ pairRows b → length rows ≡ 64
+unfolding pairRows
+facts-rows b rows er = ap length er ∙ table-length 64 64 (λ x. setOf 64 (listed b x))

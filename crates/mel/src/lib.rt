@@ -391,16 +391,17 @@ pub fn write(b: &[u8], out: &mut [u8]) -> Written
     ensures { λ r. ⌜ N.values r ≡ N.melAnswer (now (b .entry)) (now (out .entry)) ⌝ }
     ensures { λ r. ⌜ now (out .exit) ≡ N.melBuffer (now (b .entry)) (now (out .entry)) ⌝ }
 {
-    let s = record::read(b);
+    let mut goals = [0u64; 32];
+    let mut pairs = [0u64; 64];
+    let s = decoding::read(b, &mut goals, &mut pairs);
     match s {
         Reading::Refused(r) => Written::Refused(r),
         Reading::Fine => {
-            let c = clause::decode(b);
-            let n = c.n;
-            let sets = c.sets;
-            let rows = c.rows;
-            let grounds = [c.ground; 32];
-            write_clause(out, c.head, &sets[..n], &grounds, &rows)
+            let n = fields::size_of(fields::byte(b, 5));
+            let head = fields::set_at(b, 8);
+            let ground = fields::set_at(b, 16);
+            let grounds = [ground; 32];
+            write_clause(out, head, &goals[..n], &grounds, &pairs)
         }
     }
 }

@@ -21,7 +21,7 @@ use Rattle.graph.proofs.Rows.{row-at, rows-cong}
 use Rattle.graph.specs.declared.Graph.{Graph}
 use Rattle.judge.specs.ByRows.{waitsBy}
 use Rattle.judge.proofs.Listed.{waits-listed}
-use Rattle.clause.specs.Clause.{goalSets, pairRows}
+use Rattle.decoding.specs.Clause.{goalSets, pairRows}
 use Rattle.closure.specs.Closing.{Within, Rising, closing}
 use Rattle.closure.proofs.Chains.{rows-within, rows-rise, closing-of, closed-above}
 use Rattle.expression.specs.Closure.{closed}

@@ -6,6 +6,7 @@ ghost use denote.Ref.{now};
 ghost use lib.ListN.{getD};
 ghost use Rattle.sets.specs.Sets as S;
 ghost use Rattle.record.specs.Fields as F;
+ghost use Rattle.decoding.specs.Clause.{Holding};
 ghost use Rattle.order.specs.Order as O;
 ghost use Rattle.order.specs.Arrays as W;
 use graph::Graph;
@@ -51,42 +52,39 @@ fn wait_rows(from: usize, n: usize, ground: u64, goals: &[u64; 32], rows: &[u64;
     waits
 }
 
-// The waits of a record for the goals that come after the first `from`, before closure.
-fn waits_from(b: &[u8], from: usize) -> Graph
-    requires { ⌜ (F.goalCount (now b) ≤ 32) × (from ≤ F.goalCount (now b)) ⌝ }
+// The waits of a record for the goals that come after the first `from`, before closure. `goals` and `pairs` hold its facts.
+fn waits_from(b: &[u8], from: usize, goals: &[u64; 32], pairs: &[u64; 64]) -> Graph
+    requires { ⌜ (F.goalCount (now b) ≤ 32) × (from ≤ F.goalCount (now b)) × Holding (now b) (now goals) (now pairs) ⌝ }
     ensures { λ r. ⌜ r ≡ W.waitingFrom from (now (b .entry)) ⌝ }
 {
     let n = fields::size_of(fields::byte(b, 5));
     let ground = fields::set_at(b, 16);
-    let mut goals = [0u64; 32];
-    let at = clause::goal_sets(b, &mut goals);
-    let rows = clause::pair_rows(b, at);
-    wait_rows(from, n, ground, &goals, &rows)
+    wait_rows(from, n, ground, goals, pairs)
 }
 
 // The waits of a record, before closure.
-pub fn waits_of(b: &[u8]) -> Graph
-    requires { ⌜ F.goalCount (now b) ≤ 32 ⌝ }
+pub fn waits_of(b: &[u8], goals: &[u64; 32], pairs: &[u64; 64]) -> Graph
+    requires { ⌜ (F.goalCount (now b) ≤ 32) × Holding (now b) (now goals) (now pairs) ⌝ }
     ensures { λ r. ⌜ r ≡ W.waiting (now (b .entry)) ⌝ }
 {
-    waits_from(b, 0)
+    waits_from(b, 0, goals, pairs)
 }
 
 // The order of a record.
-pub fn order_of(b: &[u8]) -> Graph
-    requires { ⌜ F.goalCount (now b) ≤ 32 ⌝ }
+pub fn order_of(b: &[u8], goals: &[u64; 32], pairs: &[u64; 64]) -> Graph
+    requires { ⌜ (F.goalCount (now b) ≤ 32) × Holding (now b) (now goals) (now pairs) ⌝ }
     ensures { λ r. ⌜ r ≡ O.order (now (b .entry)) ⌝ }
 {
-    let g = waits_of(b);
+    let g = waits_of(b, goals, pairs);
     closure::close(g)
 }
 
 // The goals that goal g is before. Chains lead from it to later goals only: the waits for earlier goals are not looked for.
-pub fn after(b: &[u8], g: usize) -> u32
-    requires { ⌜ (F.goalCount (now b) ≤ 32) × (1 ≤ g) × (g ≤ F.goalCount (now b)) ⌝ }
+pub fn after(b: &[u8], g: usize, goals: &[u64; 32], pairs: &[u64; 64]) -> u32
+    requires { ⌜ (F.goalCount (now b) ≤ 32) × (1 ≤ g) × (g ≤ F.goalCount (now b)) × Holding (now b) (now goals) (now pairs) ⌝ }
     ensures { λ r. ⌜ r ≡ getD (O.order (now (b .entry)) .rows) (g - 1) 0 ⌝ }
 {
-    let waits = waits_from(b, g - 1);
+    let waits = waits_from(b, g - 1, goals, pairs);
     let closed = closure::close(waits);
     closed.rows[g - 1]
 }

@@ -7,7 +7,7 @@ use Rattle.annotator.proofs.check.Tie as tie
 use Rattle.annotator.proofs.check.Reads as reads
 use Rattle.annotator.proofs.check.Lts as lts
 use Rattle.annotator.proofs.check_text.Reads as check-text-reads
-use Rattle.record.proofs.read.Reads as read-reads
+use Rattle.decoding.proofs.read.Reads as read-reads
 
 -- src/lib.rt:145:11
 read-requires : tie.Need-read-requires
@@ -23,15 +23,18 @@ enum-told c = search needs
 
 -- src/lib.rt:147:26
 check-text-requires : tie.Need-check-text-requires
-check-text-requires c κs = accepted _ (c .before .before .read .ensures) (c .enum-told .given .1) .goals-to
+check-text-requires c κs =
+    let t = c .before .before in
+    let r = t .before .before .read .ensures in
+    (accepted _ (r .0) (t .enum-told .given .1) .goals-to, r .1 (t .enum-told .given .1))
 
 -- src/lib.rt:142:1
 returns : tie.Need-returns
-returns c = check-refused _ _ _ (c .before .before .before .read .ensures) (c .before .r .given .1)
+returns c = check-refused _ _ _ (c .before .before .before .read .ensures .0) (c .before .r .given .1)
 
 -- src/lib.rt:142:1
 returns-2 : tie.Need-returns-2
-returns-2 c = c .check-text .ensures ∙ check-fine _ _ (c .before .before .before .read .ensures) (c .before .enum-told .given .1)
+returns-2 c = c .check-text .ensures ∙ check-fine _ _ (c .before .before .before .before .before .read .ensures .0) (c .before .before .before .enum-told .given .1)
 
 pub check-spec : {M : Type 1} → statement M
 check-spec =

@@ -7,7 +7,7 @@ use Rattle.annotator.proofs.order.Lts as lts
 use Rattle.annotator.proofs.goal_count.Reads as goal-count-reads
 use Rattle.graph.proofs.Graph.empty.Reads as empty-reads
 use Rattle.order.proofs.order_of.Reads as order-of-reads
-use Rattle.record.proofs.read.Reads as read-reads
+use Rattle.decoding.proofs.read.Reads as read-reads
 
 -- src/lib.rt:57:11
 read-requires : tie.Need-read-requires
@@ -23,7 +23,10 @@ goal-count-requires c κs = search needs
 
 -- src/lib.rt:60:17
 order-of-requires : tie.Need-order-of-requires
-order-of-requires c κs = accepted _ (c .before .before .before .read .ensures) (c .before .enum-told .given .1) .goals-to
+order-of-requires c κs =
+    let t = c .before .before .before in
+    let r = t .before .before .read .ensures in
+    (accepted _ (r .0) (t .enum-told .given .1) .goals-to, r .1 (t .enum-told .given .1))
 
 -- src/lib.rt:63:26
 enum-known-r : tie.Need-enum-known-r
@@ -35,11 +38,14 @@ empty-requires c κs = search needs
 
 -- src/lib.rt:53:1
 returns : tie.Need-returns
-returns c = (read-fine _ (c .before .before .before .before .read .ensures) (c .before .before .enum-told .given .1) (c .before .goal-count .ensures), order-fine _ (c .before .before .before .before .read .ensures) (c .before .before .enum-told .given .1) (c .order-of .ensures))
+returns c =
+    let t = c .before .before .before .before in
+    let r = t .before .before .read .ensures .0 in
+    (read-fine _ r (t .enum-told .given .1) (c .before .before .before .goal-count .ensures), order-fine _ r (t .enum-told .given .1) (c .order-of .ensures))
 
 -- src/lib.rt:53:1
 returns-2 : tie.Need-returns-2
-returns-2 c = (read-refused _ _ (c .before .before .before .before .read .ensures) (c .before .before .r .given .1), order-refused _ _ (c .before .before .before .before .read .ensures) (c .before .before .r .given .1) (c .empty .ensures))
+returns-2 c = (read-refused _ _ (c .before .before .before .before .read .ensures .0) (c .before .before .r .given .1), order-refused _ _ (c .before .before .before .before .read .ensures .0) (c .before .before .r .given .1) (c .empty .ensures))
 
 pub order-spec : {M : Type 1} → statement M
 order-spec =

@@ -7,7 +7,7 @@ use denote.Ref.{now}
 use Rattle.fields.specs.Fields as F
 use Rattle.fields.proofs.Places.{place-zero, place-turn}
 use Rattle.reading.specs.Reading as R
-use Rattle.clause.proofs.Goals.{setsAfter, sets-zero, sets-more, sets-all}
+use Rattle.decoding.proofs.GoalSets.{setsAfter, sets-zero, sets-more, sets-all}
 use Rattle.decoding.specs.Decoding.{fineGoal}
 use Rattle.decoding.proofs.Goals.{GoalsFine, goal-whole, fine-zero, fine-turn, goal-ill}
 use Rattle.decoding.proofs.take_goals.Statement.{statement}

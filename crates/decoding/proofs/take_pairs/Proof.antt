@@ -11,7 +11,7 @@ use Rattle.fields.specs.Fields as F
 use Rattle.pairs.specs.Order as O
 use Rattle.pairs.proofs.Turns as T
 use Rattle.pairs.proofs.Turns.{last-zero, last-turn, order-zero, order-none}
-use Rattle.clause.proofs.Pairs.{rowsAfter, rows-zero, rows-turn, rows-all}
+use Rattle.decoding.proofs.PairRows.{rowsAfter, rows-zero, rows-turn, rows-all}
 use Rattle.decoding.proofs.Pairs.{pair-so, pair-ill}
 use Rattle.decoding.proofs.take_pairs.Statement.{statement}
 use Rattle.decoding.proofs.take_pairs.Tie as tie

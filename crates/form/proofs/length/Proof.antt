@@ -12,11 +12,11 @@ use Rattle.form.proofs.length.Reads as reads
 use Rattle.form.proofs.length.Lts as lts
 use Rattle.form.proofs.closed.Reads as closed-reads
 use Rattle.form.proofs.length_rows.Reads as length-rows-reads
-use Rattle.record.proofs.read.Reads as read-reads
+use Rattle.decoding.proofs.read.Reads as read-reads
 
 -- the record was read
-fine : (c : tie.After-enum-told) → reading (c .before .before .before .before .args .b .now) ≡ Fine
-fine c = sym (c .before .before .read .ensures) ∙ c .enum-told .given .1
+fine : (c : tie.After-enum-told) → reading (c .before .before .before .before .before .before .args .b .now) ≡ Fine
+fine c = sym (c .before .before .read .ensures .0) ∙ c .enum-told .given .1
 
 read-requires : tie.Need-read-requires
 read-requires c κs = search needs
@@ -28,17 +28,19 @@ enum-told : tie.Need-enum-told
 enum-told c = search needs
 
 closed-requires : tie.Need-closed-requires
-closed-requires c κs = goals-to _ (fine c)
+closed-requires c κs =
+    let t = c .before .before in
+    (goals-to _ (fine t), t .before .before .read .ensures .1 (t .enum-told .given .1))
 
 length-rows-requires : tie.Need-length-rows-requires
-length-rows-requires c κs = graph-asks _ (fine (c .before .before .before)) _ (c .before .before .closed .ensures)
+length-rows-requires c κs = graph-asks _ (fine (c .before .before .before .before .before)) _ (c .before .before .closed .ensures)
 
 returns : tie.Need-returns
-returns c = estimated-refused _ _ _ (plan-refused _ _ (sym (c .before .before .before .read .ensures) ∙ c .before .s .given .1))
+returns c = estimated-refused _ _ _ (plan-refused _ _ (sym (c .before .before .before .read .ensures .0) ∙ c .before .s .given .1))
 
 returns-2 : tie.Need-returns-2
 returns-2 c =
-    subst (λ (p : Plan). Estimated p (estimate (c .length-rows .result))) (graph-plan _ (fine (c .before .before .before .before)) _ (c .before .before .before .closed .ensures)) (c .length-rows .ensures)
+    subst (λ (p : Plan). Estimated p (estimate (c .length-rows .result))) (graph-plan _ (fine (c .before .before .before .before .before .before)) _ (c .before .before .before .closed .ensures)) (c .length-rows .ensures)
 
 pub length-spec : {M : Type 1} → statement M
 length-spec =

@@ -12,11 +12,11 @@ use Rattle.form.proofs.write.Reads as reads
 use Rattle.form.proofs.write.Lts as lts
 use Rattle.form.proofs.closed.Reads as closed-reads
 use Rattle.form.proofs.write_rows.Reads as write-rows-reads
-use Rattle.record.proofs.read.Reads as read-reads
+use Rattle.decoding.proofs.read.Reads as read-reads
 
 -- the record was read
-fine : (c : tie.After-enum-told) → reading (c .before .before .before .before .before .args .b .now) ≡ Fine
-fine c = sym (c .before .before .read .ensures) ∙ c .enum-told .given .1
+fine : (c : tie.After-enum-told) → reading (c .before .before .before .before .before .before .before .args .b .now) ≡ Fine
+fine c = sym (c .before .before .read .ensures .0) ∙ c .enum-told .given .1
 
 read-requires : tie.Need-read-requires
 read-requires c κs = search needs
@@ -28,14 +28,16 @@ enum-told : tie.Need-enum-told
 enum-told c = search needs
 
 closed-requires : tie.Need-closed-requires
-closed-requires c κs = goals-to _ (fine c)
+closed-requires c κs =
+    let t = c .before .before in
+    (goals-to _ (fine t), t .before .before .read .ensures .1 (t .enum-told .given .1))
 
 write-rows-requires : tie.Need-write-rows-requires
-write-rows-requires c κs = graph-asks _ (fine (c .before .before .before .before)) _ (c .before .before .before .closed .ensures)
+write-rows-requires c κs = graph-asks _ (fine (c .before .before .before .before .before .before)) _ (c .before .before .before .closed .ensures)
 
 returns : tie.Need-returns
 returns c =
-    let e = plan-refused _ _ (sym (c .before .before .before .read .ensures) ∙ c .before .s .given .1) in
+    let e = plan-refused _ _ (sym (c .before .before .before .read .ensures .0) ∙ c .before .s .given .1) in
     (refused-answer _ _ _ _ e, refused-buffer _ _ _ _ e)
 
 same-length : tie.Need-same-length
@@ -43,8 +45,8 @@ same-length c = search needs
 
 returns-2 : tie.Need-returns-2
 returns-2 c =
-    let e = graph-plan _ (fine (c .before .before .before .before .before .before .before)) _ (c .before .before .before .before .before .before .closed .ensures) in
-    let buf = c .before .before .before .before .before .before .before .before .before .before .before .before .args .out .now in (
+    let e = graph-plan _ (fine (c .before .before .before .before .before .before .before .before .before)) _ (c .before .before .before .before .before .before .closed .ensures) in
+    let buf = c .before .before .before .before .before .before .before .before .before .before .before .before .before .before .before .before .args .out .now in (
       c .before .before .write-rows .ensures .0 ∙ ap (λ (p : Plan). answer p buf) e,
       c .before .before .write-rows .ensures .1 ∙ ap (λ (p : Plan). filled p buf) e,
     )

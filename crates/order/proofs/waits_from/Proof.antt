@@ -14,21 +14,15 @@ size-of-requires c κs = search needs
 set-at-requires : tie.Need-set-at-requires
 set-at-requires c κs = search needs
 
-goal-sets-requires : tie.Need-goal-sets-requires
-goal-sets-requires c κs = search needs
-
-pair-rows-requires : tie.Need-pair-rows-requires
-pair-rows-requires c κs = search needs
-
 wait-rows-requires : tie.Need-wait-rows-requires
 wait-rows-requires c κs = search needs
 
 returns : tie.Need-returns
 returns c =
-    let s = c .before .before .before .before .before .before .before .before .before .before in
-    let n = c .before .before .before .before .before .before .before .size-of .ensures .0 ∙ c .before .before .before .before .before .before .before .before .byte .ensures in
-    c .wait-rows .ensures
-    ∙ parts-waits (now (s .args .b)) (s .pre .0) (s .args .from) _ _ _ _ n (c .before .before .before .before .before .before .set-at .ensures) (c .before .before .before .before .goal-sets .ensures .1) (c .before .before .before .pair-rows .ensures)
+    let s = c .before .before .before .before .before in
+    let n = c .before .before .size-of .ensures .0 ∙ c .before .before .before .byte .ensures in
+    let facts = s .pre .2 in
+    c .wait-rows .ensures ∙ parts-waits (now (s .args .b)) (s .pre .0) (s .args .from) _ _ _ _ n (c .before .set-at .ensures) (facts .0) (facts .1)
 
 pub waits-from-spec : {M : Type 1} → statement M
 waits-from-spec =
@@ -37,7 +31,5 @@ waits-from-spec =
     byte-requires
     size-of-requires
     set-at-requires
-    goal-sets-requires
-    pair-rows-requires
     wait-rows-requires
     returns)

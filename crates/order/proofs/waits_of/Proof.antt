@@ -11,7 +11,7 @@ waits-from-requires c κs = search needs
 returns : tie.Need-returns
 returns c =
     let s = c .before .before in
-    c .waits-from .ensures ∙ waits-all (now (s .args .b)) (s .pre)
+    c .waits-from .ensures ∙ waits-all (now (s .args .b)) (s .pre .0)
 
 pub waits-of-spec : {M : Type 1} → statement M
 waits-of-spec = tie.close (tie.spec waits-from-requires returns)

@@ -7,9 +7,8 @@ use lib.ListN.{set, replicate}
 use Rattle.arrays.specs.Table.{table}
 use Rattle.arrays.proofs.Table.{table-zero, table-more}
 use Rattle.fields.specs.Fields as F
-use Rattle.fields.specs.Fields.{goalCount, headSet, groundSet, goalSet, placeAfter}
-use Rattle.clause.specs.declared.Clause.{Clause}
-use Rattle.clause.specs.Clause.{goalSets, pairRows, clause}
+use Rattle.fields.specs.Fields.{goalCount, goalSet, placeAfter}
+use Rattle.decoding.specs.Clause.{goalSets}
 
 module _ (b : List ℕ) where
   -- the sets of the first g goals
@@ -29,9 +28,3 @@ module _ (b : List ℕ) where
   pub sets-all : (g : ℕ) → g ≡ goalCount b → setsAfter g ≡ goalSets b
   unfolding setsAfter goalSets
   sets-all g e = ap (λ (n : ℕ). table 32 n (λ i. goalSet b (suc i))) e
-
-  -- a clause with these parts
-  pub made : (n head ground : ℕ) (sets rows : List ℕ) → n ≡ goalCount b → head ≡ headSet b → ground ≡ groundSet b → sets ≡ goalSets b → rows ≡ pairRows b
-      → _≡_ {A = Clause} (record { n = n; head = head; ground = ground; sets = sets; rows = rows }) (clause b)
-  unfolding clause
-  made n head ground sets rows en eh eg es er = cc

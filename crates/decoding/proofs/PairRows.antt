@@ -18,7 +18,7 @@ use Rattle.sets.specs.Sets.{has, union, single, setOf}
 use Rattle.sets.proofs.Laws.{has-union, has-single, has-empty, shl-single}
 use Rattle.sets.proofs.Builder.{single-lt, union-lt, has-setOf-in, setOf-lt, setOf-ext}
 use Rattle.fields.specs.Fields.{byte, pairCount, pairAt, listed}
-use Rattle.clause.specs.Clause.{pairRows}
+use Rattle.decoding.specs.Clause.{pairRows}
 
 -- ---- j joins row i
 

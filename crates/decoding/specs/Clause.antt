@@ -1,0 +1,20 @@
+-- The facts of a clause as arrays, taken from its record: the variable set of each goal, and for each variable the set of those that are listed in a pair
+-- with it.
+use mathlib.Core.Path.{_≡_}
+use mathlib.Core.List.{List}
+use Prim.Native.Nat.{ℕ, suc}
+use Rattle.arrays.specs.Table.{table}
+use Rattle.sets.specs.Sets.{setOf}
+use Rattle.fields.specs.Fields.{goalCount, goalSet, listed}
+
+-- the variable sets of the goals, goal g at g - 1
+unfoldable pub goalSets : List ℕ → List ℕ
+goalSets b = table 32 (goalCount b) (λ i. goalSet b (suc i))
+
+-- the listed pairs: row x is the set of the variables that stand in a pair with x
+unfoldable pub pairRows : List ℕ → List ℕ
+pairRows b = table 64 64 (λ x. setOf 64 (listed b x))
+
+-- two arrays hold them
+abbrev pub Holding : List ℕ → List ℕ → List ℕ → Type 0
+Holding b goals rows = (goals ≡ goalSets b) × (rows ≡ pairRows b)
