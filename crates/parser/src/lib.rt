@@ -15,13 +15,13 @@ pub enum Kind {
     Sequence,
 }
 
-// What is read: its kind, the goals up to 32 that stand in it, a word that is 0 only if they stand in it once and no other number does,
-// and the place behind it.
+// What is read: the place behind it, its kind, the goals up to 32 that stand in it, and a word that is 0 only if they stand in it once and no
+// other number does. The place stands first, as a refusal's does: so both are kept in one register.
 pub struct Node {
+    pub end: usize,
     pub kind: Kind,
     pub set: u32,
     pub extra: u32,
-    pub end: usize,
 }
 
 // A node, or the place with which no text of the grammar goes on.
@@ -110,7 +110,7 @@ fn opened(text: &[u8], at: usize, depth: usize) -> usize
     k
 }
 
-// As many bytes from a place on all close a parenthesis.
+// `count` bytes from a place on all close a parenthesis.
 fn closed(text: &[u8], at: usize, count: usize) -> bool
     requires { ⌜ (at ≤ length (now text)) × (count ≤ 32) ⌝ }
     ensures { λ r. ⌜ Closed (now (text .entry)) at count r ⌝ }

@@ -1,8 +1,10 @@
 use mathlib.Core.Path.{sym, _∙_}
 use Prim.Native.Nat.{_+_, _-_}
 use native.Mathlib.Omega.{arith}
+use lib.ListN.{length}
 use borrow.Author.Needs.{needs}
 use Rattle.parser.specs.Reads.{Opened}
+use Rattle.parser.proofs.Runs.{inside}
 use Rattle.parser.proofs.Wraps.{opened-start, opened-more}
 use Rattle.parser.proofs.opened.Statement.{statement}
 use Rattle.parser.proofs.opened.Tie as tie
@@ -14,7 +16,7 @@ abbrev Inv-loop : tie.InvT-loop
 Inv-loop text at depth k₀ k = Opened text at depth k
 
 abbrev μ-loop : tie.MeasureT-loop
-μ-loop text at depth k₀ k = 32 - (depth + k)
+μ-loop text at depth k₀ k = length text - (at + k)
 
 -- src/lib.rt:104:5
 loop-holds : tie.Need-loop-holds Inv-loop μ-loop
@@ -42,11 +44,11 @@ add-k c = omega (arith, c .before .before .before .loop .inv .0)
 
 -- src/lib.rt:104:5
 loop-less : tie.Need-loop-less Inv-loop μ-loop
-loop-less c = omega (arith, c .before .before .loop-test .taken)
+loop-less c = let l = inside (c .before .before .before .before .before .args .text .now) (c .before .before .before .before .before .args .at + c .before .before .before .loop .k) 40 (omega arith) (sym (c .before .peek .ensures) ∙ c .if1 .left) in omega arith
 
 -- src/lib.rt:104:5
 loop-again : tie.Need-loop-again Inv-loop μ-loop
-loop-again c = opened-more (c .before .before .before .before .before .args .text .now) (c .before .before .before .before .before .args .at) _ _ (c .before .before .loop-test .taken) (sym (c .before .peek .ensures) ∙ c .if1 .left) (c .before .before .before .loop .inv)
+loop-again c = opened-more (c .before .before .before .before .before .args .text .now) (c .before .before .before .before .before .args .at) (c .before .before .before .before .before .args .depth) (c .before .before .before .loop .k) (omega (arith, c .before .before .loop-test .taken)) (sym (c .before .peek .ensures) ∙ c .if1 .left) (c .before .before .before .loop .inv)
 
 -- src/lib.rt:99:1
 returns-2 : tie.Need-returns-2 Inv-loop μ-loop
