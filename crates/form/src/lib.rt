@@ -5,9 +5,13 @@ use graph::Graph;
 use reading::Reading;
 use refusal::Refusal;
 ghost use mathlib.Core.Path.{_≡_};
-ghost use Prim.Native.Nat.{_≤_};
+ghost use mathlib.Core.Bool.{false};
+ghost use Prim.Native.Nat.{_+_, _^_, _≤_, _<_};
+ghost use lib.ListN.{length};
 ghost use denote.Ref.{now};
+ghost use Rattle.text.specs.Text.{Wrote};
 ghost use Rattle.graph.specs.Graph.{ahead, Within};
+ghost use Rattle.split.specs.Split.{Ordered, formText};
 ghost use Rattle.expression.specs.Expr.{Goals};
 ghost use Rattle.expression.specs.Arrange.{Strict, formAny};
 ghost use Rattle.expression.specs.Search.{firstN};
@@ -34,6 +38,14 @@ pub enum Estimate {
 // The length of the longest form of 32 goals.
 const LONGEST: usize = 146;
 
+// Writes the text of the form of all goals from the start of the buffer, and gives its length.
+fn put_text(out: &mut [u8], rows: &[u32; 32], prior: &[u32; 32], all: u32) -> usize
+    requires { ⌜ Ordered (now rows) (now prior) all × (0 + length (formText false (now rows) all) < 2 ^ 63) ⌝ }
+    ensures { λ r. ⌜ Wrote (formText false (now (rows .entry)) all) 0 (now (out .entry)) r (now (out .exit)) ⌝ }
+{
+    split::put_form(out, 0, rows, prior, all, false)
+}
+
 // Writes the form of the goals 1 to n in the order that the rows say, any strict order; or refuses with 13, or with 12. A buffer that holds every form
 // needs no counting before the text is stored.
 fn write_rows(rows: &[u32; 32], n: usize, out: &mut [u8]) -> Written
@@ -54,7 +66,7 @@ fn write_rows(rows: &[u32; 32], n: usize, out: &mut [u8]) -> Written
             let room = out.len();
             if room < LONGEST {
                 let mut nowhere = [0u8; 0];
-                let need = split::put_form(&mut nowhere, 0, rows, &prior, all, false);
+                let need = put_text(&mut nowhere, rows, &prior, all);
                 if room < need {
                     return Written::Refused(Refusal {
                         number: 12,
@@ -62,7 +74,7 @@ fn write_rows(rows: &[u32; 32], n: usize, out: &mut [u8]) -> Written
                     });
                 }
             }
-            let end = split::put_form(out, 0, rows, &prior, all, false);
+            let end = put_text(out, rows, &prior, all);
             Written::Done(end)
         }
     }
@@ -81,7 +93,7 @@ fn length_rows(rows: &[u32; 32], n: usize) -> Estimate
         Found::Nothing => {
             let all = sets::below32(n);
             let mut nowhere = [0u8; 0];
-            let need = split::put_form(&mut nowhere, 0, rows, &prior, all, false);
+            let need = put_text(&mut nowhere, rows, &prior, all);
             Estimate::Length(need)
         }
     }
