@@ -1,34 +1,27 @@
 -- The waits by arrays are those of the record, where the arrays hold its goals' variable sets and its listed pairs.
 use mathlib.Core.Path.{_≡_, refl, sym, ap, ap₂, _∙_}
-use mathlib.Core.Bool.{Bool, true, false, cond, _&&_}
-use mathlib.Core.Logic.{dite}
+use mathlib.Core.Bool.{Bool, true, false, _&&_}
 use mathlib.Core.List.{List}
 use Prim.Native.Nat.{ℕ, suc, compare·suc-suc, _-_, _≤_, _<_}
-use native.Mathlib.Decide.{decLt}
 use native.Mathlib.Omega.{arith}
-use lib.Dec.{leb, ltb, isLe}
+use lib.Dec.{ltb, isLe}
 use lib.ListN.{getD}
-use lib.Pow.{pow-pos}
-use borrow.Author.Tests.{le-leb, lt-leb, lt-ltb, le-ltb}
-use Rattle.logic.proofs.Bools.{and-r}
+use borrow.Author.Tests.{le-leb}
 use Rattle.sets.specs.Sets.{has, setOf}
-use Rattle.sets.proofs.Laws.{has-empty}
 use Rattle.sets.proofs.Builder.{setOf-lt, setOf-ext, has-setOf-in}
 use Rattle.arrays.specs.Table.{table}
 use Rattle.arrays.proofs.Table.{table-at, table-cong}
 use Rattle.graph.specs.Graph.{goalsOf, rowsOf}
-use Rattle.graph.proofs.Rows.{row-at, rows-cong}
 use Rattle.graph.specs.declared.Graph.{Graph}
 use Rattle.judge.specs.ByRows.{waitsBy}
 use Rattle.judge.proofs.Listed.{waits-listed}
-use Rattle.decoding.specs.Clause.{goalSets, pairRows}
+use Rattle.decoding.specs.Clause.{goalSets, pairRows, Holding}
 use Rattle.closure.specs.Closing.{Within, Rising, closing}
-use Rattle.closure.proofs.Chains.{rows-within, rows-rise, closing-of, closed-above}
-use Rattle.expression.specs.Closure.{closed}
+use Rattle.closure.proofs.Chains.{rows-within, rows-rise, closing-of}
 use Rattle.fields.specs.Facts.{groundAt, freeAt}
 use Rattle.record.specs.Fields.{goalCount, groundSet, goalSet, listed}
 use Rattle.order.specs.Order.{earlier, waits, before, order}
-use Rattle.order.specs.Arrays.{waitsAt, waitRow, waitRows, waiting, waitsFrom, waitingFrom}
+use Rattle.order.specs.Arrays.{waitsAt, waitRow, waitRows, waiting}
 use Rattle.order.proofs.Theorems.{waits-rise}
 
 -- goals counted from 0
@@ -77,66 +70,20 @@ module _ (b : List ℕ) where
     unfolding waitRow goalsOf
     row-is i l = setOf-cong (goalCount b) _ (λ j. waits b (suc i) (suc j)) (λ j k. waits-at i j l k)
 
-    -- for the goals after the first `from` alone
-    row-from : (from i : ℕ) → i < goalCount b
-        → cond (leb from i) (waitRow (groundAt b (suc i)) (freeAt b (suc i)) goals pairs (goalCount b) i) 0 ≡ goalsOf (goalCount b) (waitsFrom from b (suc i))
-    unfolding goalsOf
-    row-from from i l = dite (decLt i from) none some
-      where
-        row : ℕ
-        row = waitRow (groundAt b (suc i)) (freeAt b (suc i)) goals pairs (goalCount b) i
-
-        none : i < from → cond (leb from i) row 0 ≡ setOf (goalCount b) (λ j. waitsFrom from b (suc i) (suc j))
-        none h =
-            ap (λ (t : Bool). cond t row 0) (lt-leb from i h)
-            ∙ setOf-ext (goalCount b) 0 (λ j. waitsFrom from b (suc i) (suc j)) (pow-pos (goalCount b))
-            (λ j k. has-empty j ∙ sym (ap (λ (t : Bool). t && waits b (suc i) (suc j)) (le-ltb from (suc i) h)))
-
-        some : (i < from → ⊥) → cond (leb from i) row 0 ≡ setOf (goalCount b) (λ j. waitsFrom from b (suc i) (suc j))
-        some h =
-            ap (λ (t : Bool). cond t row 0) (le-leb from i (omega arith)) ∙ row-is i l
-            ∙ setOf-cong (goalCount b) (λ j. waits b (suc i) (suc j)) (λ j. waitsFrom from b (suc i) (suc j))
-            (λ j k. sym (ap (λ (t : Bool). t && waits b (suc i) (suc j)) (lt-ltb from (suc i) (omega arith))))
-
-    -- from the clause's parts
-    pub parts-waits : (from n ground : ℕ) (sets rows : List ℕ) → n ≡ goalCount b → ground ≡ groundSet b → sets ≡ goalSets b → rows ≡ pairRows b
-        → waitRows from n ground sets rows ≡ waitingFrom from b
-    unfolding goalSets pairRows waitRows waitingFrom rowsOf goals pairs
-    parts-waits from n ground sets rows en eg es er =
+    -- from the arrays that hold the record's facts
+    pub facts-waits : (n ground : ℕ) (sets rows : List ℕ) → n ≡ goalCount b → ground ≡ groundSet b → Holding b sets rows
+        → waitRows n ground sets rows ≡ waiting b
+    unfolding goalSets pairRows waitRows waiting rowsOf goals pairs
+    facts-waits n ground sets rows en eg (es, er) =
         rw (en, eg, es, er)
         (ap (λ (l : List ℕ). record { n = goalCount b; rows = l })
-        (table-cong 32 (goalCount b) _ (λ i. goalsOf (goalCount b) (waitsFrom from b (suc i))) (λ i l. row-from from i l)))
-
-    -- for all goals
-    pub waits-all : waitingFrom 0 b ≡ waiting b
-    unfolding waitingFrom waiting
-    waits-all =
-        ap (λ (l : List ℕ). record { n = goalCount b; rows = l })
-        (rows-cong (goalCount b) (waitsFrom 0 b) (waits b) h (λ i j p q r s. ap (λ (t : Bool). t && waits b i j) (lt-ltb 0 i p)))
+        (table-cong 32 (goalCount b) _ (λ i. goalsOf (goalCount b) (waits b (suc i))) (λ i l. row-is i l)))
 
     -- what the closure asks of a graph of waits, and what it makes of it
     pub waiting-good : (g : Graph) → g ≡ waiting b → (g .n ≤ 32) × Within (g .n) (g .rows) × Rising (g .rows)
     unfolding waiting
     waiting-good g e = rw e (h, rows-within (goalCount b) (waits b) h, rows-rise (goalCount b) (waits b) h (waits-rise b))
 
-    pub from-good : (from : ℕ) (g : Graph) → g ≡ waitingFrom from b → (g .n ≤ 32) × Within (g .n) (g .rows) × Rising (g .rows)
-    unfolding waitingFrom
-    from-good from g e =
-        let up : (i j : ℕ) → waitsFrom from b i j ≡ true → i < j = λ i j t. waits-rise b i j (and-r (ltb from i) (waits b i j) t) in
-        rw e (h, rows-within (goalCount b) (waitsFrom from b) h, rows-rise (goalCount b) (waitsFrom from b) h up)
-
     pub closing-waits : (g : Graph) → g ≡ waiting b → closing g ≡ order b
     unfolding waiting order before
     closing-waits g e = ap closing e ∙ closing-of (goalCount b) (waits b) h
-
-    -- the waits for the goals from g on give its row
-    pub closing-from : (g : ℕ) → 1 ≤ g → g ≤ goalCount b → (w c : Graph) → w ≡ waitingFrom (g - 1) b → c ≡ closing w
-        → getD (c .rows) (g - 1) 0 ≡ getD (order b .rows) (g - 1) 0
-    unfolding waitingFrom order before goalsOf
-    closing-from g l u w c ew ec =
-        let n = goalCount b in
-        let i = g - 1 in
-        ap (λ (x : Graph). getD (x .rows) i 0) (ec ∙ ap closing ew ∙ closing-of n (waitsFrom i b) h)
-        ∙ row-at n (closed (waitsFrom i b) n) i (omega arith) (omega arith)
-        ∙ setOf-cong n (λ j. closed (waitsFrom i b) n (suc i) (suc j)) (λ j. closed (waits b) n (suc i) (suc j))
-        (λ j k. closed-above (waits b) n i (suc i) (suc j) (waits-rise b) (omega arith)) ∙ sym (row-at n (before b) i (omega arith) (omega arith))

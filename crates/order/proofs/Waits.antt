@@ -6,12 +6,9 @@ use Prim.Native.Nat.{ℕ, _+_, _*_, _%_, _^_, _≤_, _<_}
 use native.Mathlib.Nat.{mod-eq-of-lt, pow-suc}
 use native.Mathlib.Numerals.{add-one}
 use native.Mathlib.Omega.{arith}
-use lib.Dec.{leb}
-use lib.ListN.{getD, set, replicate, length-replicate, getD-replicate}
+use lib.ListN.{getD, set}
 use lib.Pow.{pow-pos, pow-lt, pow-mono}
-use borrow.Author.Tests.{lt-ltb, le-ltb, le-leb, lt-leb}
-use Rattle.arrays.specs.Table.{table}
-use Rattle.arrays.proofs.Table.{table-ext, table-more}
+use borrow.Author.Tests.{lt-ltb, le-ltb}
 use Rattle.sets.specs.Sets.{union, single}
 use Rattle.sets.proofs.Laws.{has-empty}
 use Rattle.sets.proofs.Builder.{setOf-ext, setOf-more, setOf-lt}
@@ -50,14 +47,3 @@ one-next j one e = omega (arith, e, pow-suc 2 j, ap (λ (x : ℕ). 2 ^ x) (add-o
 
 pub one-first : (i : ℕ) → i < 32 → 2 * 2 ^ i % 2 ^ 64 ≡ single (i + 1)
 one-first i h = ap (λ (x : ℕ). x % 2 ^ 64) (one-next i (2 ^ i) refl) ∙ mod-eq-of-lt (pow-lt {i = i + 1} {j = 64} (omega arith))
-
--- rows that begin after the first `from`
-pub from-none : (from : ℕ) (f : ℕ → ℕ) → replicate 32 0 ≡ table 32 from (λ i. cond (leb from i) (f i) 0)
-from-none from f =
-    table-ext 32 from (λ i. cond (leb from i) (f i) 0) (replicate 32 0) (length-replicate {A = ℕ} 32 0)
-    (λ i b l. getD-replicate 32 i 0 0 b ∙ sym (ap (λ (t : Bool). cond t (f i) 0) (lt-leb from i l))) (λ i b l. getD-replicate 32 i 0 0 b)
-
-pub from-more : (from i v : ℕ) (f : ℕ → ℕ) (l : List ℕ) → from ≤ i → i < 32 → l ≡ table 32 i (λ i. cond (leb from i) (f i) 0) → v ≡ f i
-    → set l i v ≡ table 32 (i + 1) (λ i. cond (leb from i) (f i) 0)
-from-more from i v f l h k e q =
-    table-more 32 i (λ i. cond (leb from i) (f i) 0) l v k e (q ∙ sym (ap (λ (t : Bool). cond t (f i) 0) (le-leb from i h)))

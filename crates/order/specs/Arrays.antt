@@ -1,8 +1,8 @@
 -- The waits from the decoded clause: the goals' variable sets as an array, goal i + 1 at place i, and the listed pairs as rows.
-use mathlib.Core.Bool.{Bool, cond, _&&_}
+use mathlib.Core.Bool.{Bool, _&&_}
 use mathlib.Core.List.{List}
 use Prim.Native.Nat.{ℕ}
-use lib.Dec.{leb, ltb}
+use lib.Dec.{ltb}
 use lib.ListN.{getD}
 use Rattle.sets.specs.Sets.{setOf}
 use Rattle.arrays.specs.Table.{table}
@@ -20,17 +20,10 @@ waitsAt ground free sets rows i j = ltb i j && waitsBy ground free rows 64 (getD
 unfoldable pub waitRow : ℕ → ℕ → List ℕ → List ℕ → ℕ → ℕ → ℕ
 waitRow ground free sets rows n i = setOf n (λ j. waitsAt ground free sets rows i j)
 
--- the graph of the waits for those of n goals that come after the first `from`
-unfoldable pub waitRows : ℕ → ℕ → ℕ → List ℕ → List ℕ → Graph
-waitRows from n ground sets rows = record { n = n; rows = table 32 n (λ i. cond (leb from i) (waitRow ground 0 sets rows n i) 0) }
+-- the graph of the waits of n goals
+unfoldable pub waitRows : ℕ → ℕ → List ℕ → List ℕ → Graph
+waitRows n ground sets rows = record { n = n; rows = table 32 n (λ i. waitRow ground 0 sets rows n i) }
 
 -- the waits of a record as a graph
 unfoldable pub waiting : List ℕ → Graph
 waiting b = graphOf (goalCount b) (waits b)
-
--- those for the goals that come after the first `from`
-abbrev pub waitsFrom : ℕ → List ℕ → ℕ → ℕ → Bool
-waitsFrom from b i j = ltb from i && waits b i j
-
-unfoldable pub waitingFrom : ℕ → List ℕ → Graph
-waitingFrom from b = graphOf (goalCount b) (waitsFrom from b)

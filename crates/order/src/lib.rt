@@ -1,9 +1,8 @@
 // The waiting order of a clause record.
 ghost use mathlib.Core.Path.{_≡_};
 ghost use mathlib.Core.Bool.{cond};
-ghost use Prim.Native.Nat.{_-_, _<_, _≤_};
+ghost use Prim.Native.Nat.{_<_, _≤_};
 ghost use denote.Ref.{now};
-ghost use lib.ListN.{getD};
 ghost use Rattle.sets.specs.Sets as S;
 ghost use Rattle.record.specs.Fields as F;
 ghost use Rattle.decoding.specs.Clause.{Holding};
@@ -37,14 +36,13 @@ fn wait_row(i: usize, n: usize, ground: u64, free: u64, goals: &[u64; 32], rows:
     row as u32
 }
 
-// The waits for those of n goals that come after the first `from`. In version 1 every goal has the header's ground set, and no variable is known independent
-// of every other.
-fn wait_rows(from: usize, n: usize, ground: u64, goals: &[u64; 32], rows: &[u64; 64]) -> Graph
-    requires { ⌜ (from ≤ n) × (n ≤ 32) ⌝ }
-    ensures { λ r. ⌜ r ≡ W.waitRows from n ground (now (goals .entry)) (now (rows .entry)) ⌝ }
+// The waits of n goals. In version 1 every goal has the header's ground set, and no variable is known independent of every other.
+fn wait_rows(n: usize, ground: u64, goals: &[u64; 32], rows: &[u64; 64]) -> Graph
+    requires { ⌜ n ≤ 32 ⌝ }
+    ensures { λ r. ⌜ r ≡ W.waitRows n ground (now (goals .entry)) (now (rows .entry)) ⌝ }
 {
     let mut waits = Graph::empty(n);
-    let mut i = from;
+    let mut i = 0;
     while i < n {
         waits.rows[i] = wait_row(i, n, ground, 0, goals, rows);
         i += 1;
@@ -52,22 +50,14 @@ fn wait_rows(from: usize, n: usize, ground: u64, goals: &[u64; 32], rows: &[u64;
     waits
 }
 
-// The waits of a record for the goals that come after the first `from`, before closure. `goals` and `pairs` hold its facts.
-fn waits_from(b: &[u8], from: usize, goals: &[u64; 32], pairs: &[u64; 64]) -> Graph
-    requires { ⌜ (F.goalCount (now b) ≤ 32) × (from ≤ F.goalCount (now b)) × Holding (now b) (now goals) (now pairs) ⌝ }
-    ensures { λ r. ⌜ r ≡ W.waitingFrom from (now (b .entry)) ⌝ }
-{
-    let n = fields::size_of(fields::byte(b, 5));
-    let ground = fields::set_at(b, 16);
-    wait_rows(from, n, ground, goals, pairs)
-}
-
-// The waits of a record, before closure.
+// The waits of a record, before closure. `goals` and `pairs` hold its facts.
 pub fn waits_of(b: &[u8], goals: &[u64; 32], pairs: &[u64; 64]) -> Graph
     requires { ⌜ (F.goalCount (now b) ≤ 32) × Holding (now b) (now goals) (now pairs) ⌝ }
     ensures { λ r. ⌜ r ≡ W.waiting (now (b .entry)) ⌝ }
 {
-    waits_from(b, 0, goals, pairs)
+    let n = fields::size_of(fields::byte(b, 5));
+    let ground = fields::set_at(b, 16);
+    wait_rows(n, ground, goals, pairs)
 }
 
 // The order of a record.
@@ -77,14 +67,4 @@ pub fn order_of(b: &[u8], goals: &[u64; 32], pairs: &[u64; 64]) -> Graph
 {
     let g = waits_of(b, goals, pairs);
     closure::close(g)
-}
-
-// The goals that goal g is before. Chains lead from it to later goals only: the waits for earlier goals are not looked for.
-pub fn after(b: &[u8], g: usize, goals: &[u64; 32], pairs: &[u64; 64]) -> u32
-    requires { ⌜ (F.goalCount (now b) ≤ 32) × (1 ≤ g) × (g ≤ F.goalCount (now b)) × Holding (now b) (now goals) (now pairs) ⌝ }
-    ensures { λ r. ⌜ r ≡ getD (O.order (now (b .entry)) .rows) (g - 1) 0 ⌝ }
-{
-    let waits = waits_from(b, g - 1, goals, pairs);
-    let closed = closure::close(waits);
-    closed.rows[g - 1]
 }

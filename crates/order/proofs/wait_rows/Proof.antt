@@ -1,24 +1,21 @@
 use borrow.Author.Needs.{needs}
 use native.Mathlib.Omega.{arith}
 use mathlib.Core.Path.{_≡_, ap, ap₂, _∙_}
-use mathlib.Core.Bool.{cond}
 use mathlib.Core.List.{List}
 use Prim.Native.Nat.{ℕ, _≤_, _-_}
-use lib.Dec.{leb}
 use denote.Ref.{now}
 use Rattle.arrays.specs.Table.{table}
+use Rattle.arrays.proofs.Table.{table-zero, table-more}
 use Rattle.graph.specs.declared.Graph.{Graph}
 use Rattle.order.specs.Arrays.{waitRow, waitRows}
-use Rattle.order.proofs.Waits.{from-none, from-more}
 use Rattle.order.proofs.wait_rows.Statement.{statement}
 use Rattle.order.proofs.wait_rows.Tie as tie
 
 abbrev Inv-loop : tie.InvT-loop
-Inv-loop from n ground goals rows waits₀ i₀ waits i =
-    (from ≤ i) × (i ≤ n) × (waits .n ≡ n) × (waits .rows ≡ table 32 i (λ k. cond (leb from k) (waitRow ground 0 goals rows n k) 0))
+Inv-loop n ground goals rows waits₀ i₀ waits i = (i ≤ n) × (waits .n ≡ n) × (waits .rows ≡ table 32 i (λ k. waitRow ground 0 goals rows n k))
 
 abbrev μ-loop : tie.MeasureT-loop
-μ-loop from n ground goals rows waits₀ i₀ waits i = n - i
+μ-loop n ground goals rows waits₀ i₀ waits i = n - i
 
 empty-requires : tie.Need-empty-requires Inv-loop μ-loop
 empty-requires c κs = search needs
@@ -26,7 +23,7 @@ empty-requires c κs = search needs
 loop-holds : tie.Need-loop-holds Inv-loop μ-loop
 loop-holds c =
     let a = c .before .args in
-    (omega arith, c .before .pre .0, ap (λ (x : Graph). x .n) (c .empty .ensures), ap (λ (x : Graph). x .rows) (c .empty .ensures) ∙ from-none (a .from) (λ k. waitRow (a .ground) 0 (now (a .goals)) (now (a .rows)) (a .n) k))
+    (omega arith, ap (λ (x : Graph). x .n) (c .empty .ensures), ap (λ (x : Graph). x .rows) (c .empty .ensures) ∙ table-zero 32 (λ k. waitRow (a .ground) 0 (now (a .goals)) (now (a .rows)) (a .n) k))
 
 wait-row-requires : tie.Need-wait-row-requires Inv-loop μ-loop
 wait-row-requires c κs = search needs
@@ -48,9 +45,8 @@ loop-again c =
     let a = c .before .before .before .before .args in
     let l = c .before .before .loop in (
       omega arith,
-      omega arith,
-      l .inv .2,
-      from-more (a .from) (l .i) (c .wait-row .result) (λ k. waitRow (a .ground) 0 (now (a .goals)) (now (a .rows)) (a .n) k) (l .waits .rows) (l .inv .0) (omega arith) (l .inv .3) (c .wait-row .ensures),
+      l .inv .1,
+      table-more 32 (l .i) (λ k. waitRow (a .ground) 0 (now (a .goals)) (now (a .rows)) (a .n) k) (l .waits .rows) (c .wait-row .result) (omega arith) (l .inv .2) (c .wait-row .ensures),
     )
 
 returns : tie.Need-returns Inv-loop μ-loop
@@ -59,8 +55,8 @@ returns c =
     let a = c .before .before .before .args in
     let l = c .before .loop in
     let e : l .i ≡ a .n = omega arith in
-    ap₂ (λ (x : ℕ) (y : List ℕ). record { n = x; rows = y }) (l .inv .2)
-    (l .inv .3 ∙ ap (λ (m : ℕ). table 32 m (λ k. cond (leb (a .from) k) (waitRow (a .ground) 0 (now (a .goals)) (now (a .rows)) (a .n) k) 0)) e)
+    ap₂ (λ (x : ℕ) (y : List ℕ). record { n = x; rows = y }) (l .inv .1)
+    (l .inv .2 ∙ ap (λ (m : ℕ). table 32 m (λ k. waitRow (a .ground) 0 (now (a .goals)) (now (a .rows)) (a .n) k)) e)
 
 pub wait-rows-spec : {M : Type 1} → statement M
 wait-rows-spec =

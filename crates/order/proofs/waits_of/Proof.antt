@@ -1,17 +1,34 @@
 use mathlib.Core.Path.{_∙_}
 use borrow.Author.Needs.{needs}
 use denote.Ref.{now}
-use Rattle.order.proofs.Record.{waits-all}
+use Rattle.order.proofs.Record.{facts-waits}
 use Rattle.order.proofs.waits_of.Statement.{statement}
 use Rattle.order.proofs.waits_of.Tie as tie
 
-waits-from-requires : tie.Need-waits-from-requires
-waits-from-requires c κs = search needs
+byte-requires : tie.Need-byte-requires
+byte-requires c κs = search needs
+
+size-of-requires : tie.Need-size-of-requires
+size-of-requires c κs = search needs
+
+set-at-requires : tie.Need-set-at-requires
+set-at-requires c κs = search needs
+
+wait-rows-requires : tie.Need-wait-rows-requires
+wait-rows-requires c κs = search needs
 
 returns : tie.Need-returns
 returns c =
-    let s = c .before .before in
-    c .waits-from .ensures ∙ waits-all (now (s .args .b)) (s .pre .0)
+    let s = c .before .before .before .before .before in
+    let n = c .before .before .size-of .ensures .0 ∙ c .before .before .before .byte .ensures in
+    c .wait-rows .ensures ∙ facts-waits (now (s .args .b)) (s .pre .0) _ _ _ _ n (c .before .set-at .ensures) (s .pre .1)
 
 pub waits-of-spec : {M : Type 1} → statement M
-waits-of-spec = tie.close (tie.spec waits-from-requires returns)
+waits-of-spec =
+    tie.close
+    (tie.spec
+    byte-requires
+    size-of-requires
+    set-at-requires
+    wait-rows-requires
+    returns)
