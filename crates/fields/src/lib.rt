@@ -69,6 +69,40 @@ pub fn set_at(b: &[u8], at: usize) -> u64
     number(b, at, 8)
 }
 
+// Of the goal that starts at `at`: where its length byte stands.
+pub fn length_at(b: &[u8], at: usize) -> usize
+    requires { ⌜ at < 2 ^ 32 ⌝ }
+    ensures { λ r. ⌜ r ≡ F.lengthAt (now (b .entry)) at ⌝ }
+{
+    at + 8
+}
+
+// Where its text starts: its fixed part ends there.
+pub fn text_at(b: &[u8], at: usize) -> usize
+    requires { ⌜ at < 2 ^ 32 ⌝ }
+    ensures { λ r. ⌜ r ≡ F.textAt (now (b .entry)) at ⌝ }
+{
+    at + 9
+}
+
+// How many bytes its text has.
+pub fn text_length_at(b: &[u8], at: usize) -> usize
+    requires { ⌜ at < 2 ^ 32 ⌝ }
+    ensures { λ r. ⌜ r ≡ F.textLengthAt (now (b .entry)) at ⌝ }
+    ensures { λ r. ⌜ r < 256 ⌝ }
+{
+    size_of(byte(b, length_at(b, at)))
+}
+
+// Where it ends.
+pub fn goal_end(b: &[u8], at: usize) -> usize
+    requires { ⌜ at < 2 ^ 32 ⌝ }
+    ensures { λ r. ⌜ r ≡ F.goalEnd (now (b .entry)) at ⌝ }
+    ensures { λ r. ⌜ r ≤ at + 264 ⌝ }
+{
+    text_at(b, at) + text_length_at(b, at)
+}
+
 // Where the first g goals end.
 pub fn place_after(b: &[u8], g: usize) -> usize
     requires { ⌜ g < 256 ⌝ }
@@ -78,10 +112,19 @@ pub fn place_after(b: &[u8], g: usize) -> usize
     let mut at: usize = 24;
     let mut i: usize = 0;
     while i < g {
-        at = at + 9 + size_of(byte(b, at + 8));
+        at = goal_end(b, at);
         i += 1;
     }
     at
+}
+
+// Where goal g starts.
+pub fn goal_place(b: &[u8], g: usize) -> usize
+    requires { ⌜ (1 ≤ g) × (g ≤ 32) ⌝ }
+    ensures { λ r. ⌜ r ≡ F.goalPlace (now (b .entry)) g ⌝ }
+    ensures { λ r. ⌜ r ≤ 24 + 264 * 31 ⌝ }
+{
+    place_after(b, g - 1)
 }
 
 // Where the text of goal g starts.
@@ -90,7 +133,7 @@ pub fn text_place(b: &[u8], g: usize) -> usize
     ensures { λ r. ⌜ r ≡ F.textPlace (now (b .entry)) g ⌝ }
     ensures { λ r. ⌜ r < 2 ^ 14 ⌝ }
 {
-    place_after(b, g - 1) + 9
+    text_at(b, goal_place(b, g))
 }
 
 // How many bytes the text of goal g has.
@@ -99,5 +142,5 @@ pub fn text_length(b: &[u8], g: usize) -> usize
     ensures { λ r. ⌜ r ≡ F.textLength (now (b .entry)) g ⌝ }
     ensures { λ r. ⌜ r < 256 ⌝ }
 {
-    size_of(byte(b, place_after(b, g - 1) + 8))
+    text_length_at(b, goal_place(b, g))
 }

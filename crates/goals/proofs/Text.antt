@@ -4,13 +4,15 @@ use mathlib.Core.Logic.{⊎-elim}
 use mathlib.Core.Bool.{Bool, true, false, _&&_, cond}
 use mathlib.Core.List.{List}
 use Prim.Native.Nat.{ℕ, zero, suc, _+_, _-_, _<_}
-use native.Mathlib.Nat.{eq-or-lt-of-le, le-of-suc-le-suc, not-suc-le-zero}
+use native.Mathlib.Nat.{eq-or-lt-of-le, le-of-suc-le-suc, not-suc-le-zero, le-step, lt-suc-self}
 use native.Mathlib.Numerals.{add-one}
 use native.Mathlib.Omega.{arith}
+use lib.Dec.{eqb}
+use borrow.Author.Tests.{eqb-true, eq-eqb}
 use Rattle.fields.specs.Fields.{byte}
-use Rattle.logic.proofs.Bools.{and-l, and-r}
+use Rattle.logic.proofs.Bools.{iff, and-l, and-r, and-i}
 use Rattle.reading.specs.Reading.{between, firstBad}
-use Rattle.reading.proofs.Text.{good-text}
+use Rattle.reading.proofs.Text.{text-good, good-text}
 use Rattle.goals.specs.Text.{clean}
 
 module _ (b : List ℕ) where
@@ -29,7 +31,7 @@ module _ (b : List ℕ) where
   unfolding firstBad
   bad-none at end e = let z : end - at ≡ 0 = omega arith in ap (λ (k : ℕ). firstBad b at k) z
 
-  -- ---- a clean text has no bad byte
+  -- ---- a text has no bad byte exactly if it is clean
 
   pub clean-zero : (from : ℕ) → true ≡ clean b from 0
   unfolding clean
@@ -46,5 +48,13 @@ module _ (b : List ℕ) where
       ⊎-elim (λ q. ap (λ (x : ℕ). between 33 126 (byte b (from + x))) q ∙ and-r (clean b from k) (between 33 126 (byte b (from + k))) e)
       (λ l. clean-out from k (and-l (clean b from k) (between 33 126 (byte b (from + k))) e) i l) (eq-or-lt-of-le (le-of-suc-le-suc h))
 
-  pub clean-none : (from k : ℕ) → clean b from k ≡ true → from + k ≡ firstBad b from k
-  clean-none from k e = sym (good-text b k from (clean-out from k e))
+  clean-in : (from k : ℕ) → ((i : ℕ) → i < k → between 33 126 (byte b (from + i)) ≡ true) → clean b from k ≡ true
+  unfolding clean
+  clean-in from zero h = refl
+  clean-in from (suc k) h =
+      and-i (clean b from k) (between 33 126 (byte b (from + k))) (clean-in from k (λ i l. h i (le-step l))) (h k (lt-suc-self k))
+
+  pub clean-test : (from k : ℕ) → clean b from k ≡ eqb (firstBad b from k) (from + k)
+  clean-test from k =
+      iff (clean b from k) (eqb (firstBad b from k) (from + k)) (λ e. eq-eqb _ _ (good-text b k from (clean-out from k e)))
+      (λ e. clean-in from k (text-good b k from (eqb-true _ _ e)))

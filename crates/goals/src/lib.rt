@@ -1,10 +1,11 @@
-// Checks a goal of a record.
+// Checks a goal of a record: by plain tests whether anything is refused, and step by step for the refusal.
 use reading::Reading;
 ghost use mathlib.Core.Path.{_≡_};
 ghost use Prim.Native.Nat.{_+_, _<_, _≤_, _^_};
 ghost use Rattle.fields.specs.Fields as F;
 ghost use lib.ListN.{length};
 ghost use Rattle.reading.specs.Reading as R;
+ghost use Rattle.reading.specs.Fine as D;
 ghost use Rattle.goals.specs.Text as T;
 
 fn text_byte(x: u8) -> bool
@@ -14,7 +15,7 @@ fn text_byte(x: u8) -> bool
 }
 
 // Whether each of the k bytes from `from` on is a text byte.
-pub fn clean(b: &[u8], from: usize, k: usize) -> bool
+fn clean(b: &[u8], from: usize, k: usize) -> bool
     requires { ⌜ from + k ≤ length (now b) ⌝ }
     ensures { λ r. ⌜ r ≡ T.clean (now (b .entry)) from k ⌝ }
 {
@@ -44,17 +45,11 @@ fn find_bad(b: &[u8], from: usize, k: usize) -> usize
     at
 }
 
-// The same, without a search where all are text bytes.
-fn first_bad(b: &[u8], from: usize, k: usize) -> usize
-    requires { ⌜ from + k < 2 ^ 64 ⌝ }
-    ensures { λ r. ⌜ r ≡ R.firstBad (now (b .entry)) from k ⌝ }
+// Whether a text may have k bytes.
+fn length_fine(k: usize) -> bool
+    ensures { λ r. ⌜ r ≡ R.between 1 R.textLimit k ⌝ }
 {
-    if from + k <= b.len() {
-        if clean(b, from, k) {
-            return from + k;
-        }
-    }
-    find_bad(b, from, k)
+    (1 <= k) & (k <= 40)
 }
 
 // Checks the goal that starts at `at`, with k text bytes.
@@ -63,11 +58,25 @@ pub fn goal(b: &[u8], at: usize, v: u32, k: usize, s: Reading) -> Reading
     ensures { λ r. ⌜ r ≡ R.goal (now (b .entry)) at s ⌝ }
 {
     let size = b.len();
-    let text = at + 9;
-    let bad = first_bad(b, text, k);
+    let length = fields::length_at(b, at);
+    let text = fields::text_at(b, at);
+    let bad = find_bad(b, text, k);
     let s = reading::also(s, text <= size, 7, size);
     let s = reading::also(s, sets::within(fields::set_at(b, at), v), 8, at);
-    let s = reading::also(s, (1 <= k) & (k <= 40), 9, at + 8);
+    let s = reading::also(s, length_fine(k), 9, length);
     let s = reading::also(s, text + k <= size, 7, size);
     reading::also(s, bad == text + k, 9, bad)
+}
+
+// Whether nothing of this goal is refused.
+pub fn goal_fine(b: &[u8], at: usize, v: u32, k: usize) -> bool
+    requires { ⌜ (at < 2 ^ 32) × (k < 256) × (v ≡ F.varCount (now b)) × (k ≡ F.textLengthAt (now b) at) ⌝ }
+    ensures { λ r. ⌜ r ≡ D.goalFine (now (b .entry)) at ⌝ }
+{
+    let text = fields::text_at(b, at);
+    if text + k <= b.len() {
+        let set = fields::whole_set(b, at);
+        return sets::within(set, v) & length_fine(k) & clean(b, text, k);
+    }
+    false
 }

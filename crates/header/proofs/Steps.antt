@@ -1,6 +1,6 @@
 -- The steps of checking a header, as the code makes them.
 use mathlib.Core.Path.{_≡_}
-use mathlib.Core.Bool.{Bool}
+use mathlib.Core.Bool.{Bool, false, _&&_}
 use mathlib.Core.List.{List}
 use Prim.Native.Nat.{ℕ}
 use lib.Dec.{eqb, leb}
@@ -10,17 +10,20 @@ use Rattle.sets.specs.Sets.{within, subset}
 use Rattle.reading.specs.declared.Reading.{Reading}
 use Rattle.reading.specs.declared.Reading.the-variants.{Fine}
 use Rattle.reading.specs.Reading.{_must_else_place_, between, counts, header, versionOne}
+use Rattle.reading.specs.Fine.{fine, countsFine, headerFine}
+use Rattle.reading.proofs.Fine.{fine-must}
 
 module _ (b : List ℕ) where
-  pub count-steps : (m w n v : ℕ) (r₁ r₂ r₃ r₄ r₅ : Reading) → m ≡ mark b → w ≡ version b → n ≡ goalCount b → v ≡ varCount b
-      → r₁ ≡ (Fine must leb 24 (length b) else 1 place length b)
-      → r₂ ≡ (r₁ must eqb m 0x4C464A else 2 place 0)
-      → r₃ ≡ (r₂ must eqb w 1 else 3 place 3)
-      → r₄ ≡ (r₃ must between 1 32 n else 4 place 5)
-      → r₅ ≡ (r₄ must leb v 64 else 5 place 6)
+  pub count-steps : (z m w n v : Bool) (r₁ r₂ r₃ r₄ r₅ : Reading) → z ≡ leb 24 (length b) → m ≡ eqb (mark b) 0x4C464A → w ≡ versionOne (version b)
+      → n ≡ between 1 32 (goalCount b) → v ≡ leb (varCount b) 64
+      → r₁ ≡ (Fine must z else 1 place length b)
+      → r₂ ≡ (r₁ must m else 2 place 0)
+      → r₃ ≡ (r₂ must w else 3 place 3)
+      → r₄ ≡ (r₃ must n else 4 place 5)
+      → r₅ ≡ (r₄ must v else 5 place 6)
       → r₅ ≡ counts versionOne b
-  unfolding counts versionOne
-  count-steps m w n v r₁ r₂ r₃ r₄ r₅ em ew en ev e₁ e₂ e₃ e₄ e₅ = rw (e₅, e₄, e₃, e₂, e₁, em, ew, en, ev)
+  unfolding counts
+  count-steps z m w n v r₁ r₂ r₃ r₄ r₅ ez em ew en ev e₁ e₂ e₃ e₄ e₅ = rw (e₅, e₄, e₃, e₂, e₁, ez, em, ew, en, ev)
 
   pub set-steps : (v head ground : ℕ) (inside part : Bool) (r₁ r₂ r₃ : Reading) → v ≡ varCount b → head ≡ headSet b → ground ≡ groundSet b
       → inside ≡ within v head → part ≡ subset ground head
@@ -30,3 +33,20 @@ module _ (b : List ℕ) where
       → r₃ ≡ header versionOne b
   unfolding header
   set-steps v head ground inside part r₁ r₂ r₃ ev eh eg ei ep e₁ e₂ e₃ = rw (e₃, e₂, e₁, ei, ep, eh, eg, ev)
+
+  -- ---- by plain tests
+
+  pub counts-fine : (z m w n v : Bool) → z ≡ leb 24 (length b) → m ≡ eqb (mark b) 0x4C464A → w ≡ versionOne (version b)
+      → n ≡ between 1 32 (goalCount b) → v ≡ leb (varCount b) 64 → (((z && m) && w) && n) && v ≡ countsFine b
+  unfolding countsFine counts fine
+  counts-fine z m w n v ez em ew en ev = rw (ez, em, ew, en, ev, fine-must, fine-must, fine-must, fine-must, fine-must)
+
+  pub header-fine : (v head ground : ℕ) (c inside part : Bool) → v ≡ varCount b → head ≡ headSet b → ground ≡ groundSet b → c ≡ countsFine b
+      → inside ≡ within v head → part ≡ subset ground head → (c && inside) && part ≡ headerFine b
+  unfolding countsFine headerFine header
+  header-fine v head ground c inside part ev eh eg ec ei ep = rw (ec, ei, ep, eh, eg, ev, fine-must, fine-must)
+
+  -- a record too short for a header
+  pub header-short : leb 24 (length b) ≡ false → false ≡ headerFine b
+  unfolding headerFine header counts fine
+  header-short e = rw (fine-must, fine-must, fine-must, fine-must, fine-must, fine-must, fine-must, e)

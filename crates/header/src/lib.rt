@@ -1,22 +1,54 @@
-// Checks the header of a record.
+// Checks the header of a record: by plain tests whether anything is refused, and step by step for the refusal. Each test is a function that both call.
 use reading::Reading;
 ghost use mathlib.Core.Path.{_≡_};
 ghost use Prim.Native.Nat.{_+_, _<_, _≤_, _^_};
+ghost use lib.Dec.{eqb, leb};
+ghost use lib.ListN.{length};
 ghost use Rattle.fields.specs.Fields as F;
 ghost use Rattle.reading.specs.Reading as R;
+ghost use Rattle.reading.specs.Fine as D;
+
+fn size_fine(b: &[u8]) -> bool
+    ensures { λ r. ⌜ r ≡ leb 24 (length (now (b .entry))) ⌝ }
+{
+    24 <= b.len()
+}
+
+fn mark_fine(b: &[u8]) -> bool
+    ensures { λ r. ⌜ r ≡ eqb (F.mark (now (b .entry))) 0x4C464A ⌝ }
+{
+    fields::number(b, 0, 3) == 0x4C464A
+}
+
+fn version_fine(b: &[u8]) -> bool
+    ensures { λ r. ⌜ r ≡ R.versionOne (F.version (now (b .entry))) ⌝ }
+{
+    fields::number(b, 3, 2) == 1
+}
+
+fn goals_fine(b: &[u8]) -> bool
+    ensures { λ r. ⌜ r ≡ R.between 1 32 (F.goalCount (now (b .entry))) ⌝ }
+{
+    let n = fields::byte(b, 5);
+    (1 <= n) & (n <= 32)
+}
+
+fn variables_fine(b: &[u8]) -> bool
+    ensures { λ r. ⌜ r ≡ leb (F.varCount (now (b .entry))) 64 ⌝ }
+{
+    fields::byte(b, 6) <= 64
+}
 
 // Checks the length, the mark, the version and the counts.
 fn counts(b: &[u8]) -> Reading
     ensures { λ r. ⌜ r ≡ R.counts R.versionOne (now (b .entry)) ⌝ }
 {
-    let size = b.len();
-    let n = fields::byte(b, 5);
     let s = Reading::Fine;
-    let s = reading::also(s, 24 <= size, 1, size);
-    let s = reading::also(s, fields::number(b, 0, 3) == 0x4C464A, 2, 0);
-    let s = reading::also(s, fields::number(b, 3, 2) == 1, 3, 3);
-    let s = reading::also(s, (1 <= n) & (n <= 32), 4, 5);
-    reading::also(s, fields::byte(b, 6) <= 64, 5, 6)
+    let s = reading::also(s, size_fine(b), 1, b.len());
+    let s = reading::also(s, mark_fine(b), 2, 0);
+    let s = reading::also(s, version_fine(b), 3, 3);
+    let s = reading::also(s, goals_fine(b), 4, 5);
+    reading::also(s, variables_fine(b), 5, 6)
 }
 
 // Checks the header.
@@ -28,4 +60,23 @@ pub fn header(b: &[u8]) -> Reading
     let s = counts(b);
     let s = reading::also(s, sets::within(head, v), 6, 8);
     reading::also(s, sets::subset(fields::set_at(b, 16), head), 6, 16)
+}
+
+fn counts_fine(b: &[u8]) -> bool
+    ensures { λ r. ⌜ r ≡ D.countsFine (now (b .entry)) ⌝ }
+{
+    size_fine(b) & mark_fine(b) & version_fine(b) & goals_fine(b) & variables_fine(b)
+}
+
+// Whether nothing of the header is refused.
+pub fn header_fine(b: &[u8]) -> bool
+    ensures { λ r. ⌜ r ≡ D.headerFine (now (b .entry)) ⌝ }
+{
+    if size_fine(b) {
+        let v = fields::small(fields::byte(b, 6));
+        let head = fields::whole_set(b, 8);
+        let ground = fields::whole_set(b, 16);
+        return counts_fine(b) & sets::within(head, v) & sets::subset(ground, head);
+    }
+    false
 }

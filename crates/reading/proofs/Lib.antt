@@ -1,2 +1,3 @@
 pub mod Must
 pub mod Text
+pub mod Fine

@@ -1,5 +1,5 @@
-// Reading a clause record, version 1. Every read is total, and each test adds its refusal to the reading so far, so that the code follows the paper's
-// sequence with no early return. The definitions stand in the crates `fields` and `reading`; `header`, `goals` and `pairs` hold the parts.
+// Reading a clause record, version 1. Plain tests tell that nothing is refused of a part; the first part of which something is refused is checked step by
+// step, in the paper's sequence, for its refusal. The definitions stand in the crates `fields` and `reading`; `header`, `goals` and `pairs` hold the parts.
 pub use fields::text_length;
 pub use fields::text_place;
 pub use reading::Reading;
@@ -7,28 +7,34 @@ ghost use mathlib.Core.Path.{_≡_};
 ghost use Prim.Native.Nat.{_+_, _<_, _≤_, _^_};
 ghost use Rattle.fields.specs.Fields as F;
 ghost use Rattle.reading.specs.Reading as R;
+ghost use Rattle.reading.specs.declared.Reading.the-variants.{Fine};
 
-// Checks all that follows the header.
-fn rest(b: &[u8], s: Reading) -> Reading
-    ensures { λ r. ⌜ r ≡ R.ending (now (b .entry)) (R.goals (now (b .entry)) (F.goalCount (now (b .entry))) s) ⌝ }
+// Checks all that follows a header of which nothing is refused.
+fn rest(b: &[u8]) -> Reading
+    ensures { λ r. ⌜ r ≡ R.ending (now (b .entry)) (R.goals (now (b .entry)) (F.goalCount (now (b .entry))) Fine) ⌝ }
 {
     let n = fields::size_of(fields::byte(b, 5));
     let v = fields::small(fields::byte(b, 6));
-    let mut t = s;
     let mut at: usize = 24;
     let mut g: usize = 0;
     while g < n {
-        let k = fields::size_of(fields::byte(b, at + 8));
-        t = goals::goal(b, at, v, k, t);
-        at = at + 9 + k;
-        g += 1;
+        let k = fields::text_length_at(b, at);
+        if goals::goal_fine(b, at, v, k) {
+            at = fields::text_at(b, at) + k;
+            g += 1;
+        } else {
+            return goals::goal(b, at, v, k, Reading::Fine);
+        }
     }
-    pairs::ending(b, at, v, t)
+    pairs::ending(b, at, v, Reading::Fine)
 }
 
 // Reads the whole record.
 pub fn read(b: &[u8]) -> Reading
     ensures { λ r. ⌜ r ≡ R.reading (now (b .entry)) ⌝ }
 {
-    rest(b, header::header(b))
+    if header::header_fine(b) {
+        return rest(b);
+    }
+    header::header(b)
 }

@@ -1,7 +1,6 @@
-use Prim.Native.Nat.{ℕ, _≤_, _*_, _+_, _-_}
+use Prim.Native.Nat.{_≤_, _*_, _+_, _-_}
 use mathlib.Core.Path.{_≡_, ap, _∙_}
 use native.Mathlib.Omega.{arith}
-use borrow.Author.Needs.{needs}
 use denote.Ref.{now}
 use Rattle.fields.specs.Fields as F
 use Rattle.fields.proofs.Places.{place-zero, place-turn}
@@ -17,20 +16,8 @@ abbrev μ-loop : tie.MeasureT-loop
 loop-holds : tie.Need-loop-holds Inv-loop μ-loop
 loop-holds c = (omega arith, place-zero _, omega arith)
 
-add-at : tie.Need-add-at Inv-loop μ-loop
-add-at c = omega arith
-
-add-byte : tie.Need-add-byte Inv-loop μ-loop
-add-byte c = omega arith
-
-byte-requires : tie.Need-byte-requires Inv-loop μ-loop
-byte-requires c κs = search needs
-
-size-of-requires : tie.Need-size-of-requires Inv-loop μ-loop
-size-of-requires c κs = search needs
-
-add-at-2 : tie.Need-add-at-2 Inv-loop μ-loop
-add-at-2 c = omega arith
+goal-end-requires : tie.Need-goal-end-requires Inv-loop μ-loop
+goal-end-requires c κs = omega arith
 
 add-i : tie.Need-add-i Inv-loop μ-loop
 add-i c = omega arith
@@ -39,10 +26,8 @@ loop-less : tie.Need-loop-less Inv-loop μ-loop
 loop-less c = omega arith
 
 loop-again : tie.Need-loop-again Inv-loop μ-loop
-loop-again c = let l = c .before .before .before .loop in
-    let b = now (c .before .before .before .before .before .args .b) in
-    let k = c .size-of .ensures .0 ∙ c .before .byte .ensures in
-    (omega arith, ap (λ (x : ℕ). l .at + 9 + x) k ∙ place-turn b (l .i) (l .at) (l .inv .1), omega arith)
+loop-again c = let l = c .before .before .loop in
+    (omega arith, c .goal-end .ensures .0 ∙ place-turn (now (c .before .before .before .before .args .b)) (l .i) (l .at) (l .inv .1), omega arith)
 
 returns : tie.Need-returns Inv-loop μ-loop
 returns c = let l = c .before .loop in
@@ -53,16 +38,4 @@ returns c = let l = c .before .loop in
 pub place-after-spec : {M : Type 1} → statement M
 place-after-spec =
     tie.close
-    (tie.spec
-    Inv-loop
-    μ-loop
-    loop-holds
-    add-at
-    add-byte
-    byte-requires
-    size-of-requires
-    add-at-2
-    add-i
-    loop-less
-    loop-again
-    returns)
+    (tie.spec Inv-loop μ-loop loop-holds goal-end-requires add-i loop-less loop-again returns)

@@ -1,4 +1,3 @@
-use Prim.Native.Nat.{ℕ, _+_}
 use mathlib.Core.Path.{ap, _∙_}
 use borrow.Author.Needs.{needs}
 use denote.Ref.{now}
@@ -6,26 +5,15 @@ use Rattle.fields.specs.Fields as F
 use Rattle.fields.proofs.text_length.Statement.{statement}
 use Rattle.fields.proofs.text_length.Tie as tie
 
-sub-place-after : tie.Need-sub-place-after
-sub-place-after c = search needs
+goal-place-requires : tie.Need-goal-place-requires
+goal-place-requires c κs = search needs
 
-place-after-requires : tie.Need-place-after-requires
-place-after-requires c κs = search needs
-
-add-byte : tie.Need-add-byte
-add-byte c = search needs
-
-byte-requires : tie.Need-byte-requires
-byte-requires c κs = search needs
-
-size-of-requires : tie.Need-size-of-requires
-size-of-requires c κs = search needs
+text-length-at-requires : tie.Need-text-length-at-requires
+text-length-at-requires c κs = search needs
 
 returns : tie.Need-returns
 unfolding F.textLength
-returns c = (c .size-of .ensures .0 ∙ c .before .byte .ensures ∙ ap (λ (x : ℕ). F.byte (now (c .before .before .before .before .args .b)) (x + 8)) (c .before .before .place-after .ensures .0), c .size-of .ensures .1)
+returns c = (c .text-length-at .ensures .0 ∙ ap (F.textLengthAt (now (c .before .before .before .args .b))) (c .before .goal-place .ensures .0), c .text-length-at .ensures .1)
 
 pub text-length-spec : {M : Type 1} → statement M
-text-length-spec =
-    tie.close
-    (tie.spec sub-place-after place-after-requires add-byte byte-requires size-of-requires returns)
+text-length-spec = tie.close (tie.spec goal-place-requires text-length-at-requires returns)

@@ -1,23 +1,20 @@
-use Prim.Native.Nat.{ℕ, _+_}
-use mathlib.Core.Path.{ap}
+use mathlib.Core.Path.{ap, _∙_}
 use native.Mathlib.Omega.{arith}
 use borrow.Author.Needs.{needs}
+use denote.Ref.{now}
 use Rattle.fields.specs.Fields as F
 use Rattle.fields.proofs.text_place.Statement.{statement}
 use Rattle.fields.proofs.text_place.Tie as tie
 
-sub-place-after : tie.Need-sub-place-after
-sub-place-after c = search needs
+goal-place-requires : tie.Need-goal-place-requires
+goal-place-requires c κs = search needs
 
-place-after-requires : tie.Need-place-after-requires
-place-after-requires c κs = search needs
-
-add-result : tie.Need-add-result
-add-result c = search needs
+text-at-requires : tie.Need-text-at-requires
+text-at-requires c κs = search needs
 
 returns : tie.Need-returns
 unfolding F.textPlace
-returns c = (ap (λ (x : ℕ). x + 9) (c .place-after .ensures .0), omega arith)
+returns c = (c .text-at .ensures ∙ ap (F.textAt (now (c .before .before .before .args .b))) (c .before .goal-place .ensures .0), omega arith)
 
 pub text-place-spec : {M : Type 1} → statement M
-text-place-spec = tie.close (tie.spec sub-place-after place-after-requires add-result returns)
+text-place-spec = tie.close (tie.spec goal-place-requires text-at-requires returns)

@@ -1,0 +1,15 @@
+use Prim.Native.Nat.{ℕ}
+use mathlib.Core.Path.{ap}
+use borrow.Author.Needs.{needs}
+use Rattle.reading.specs.Reading as R
+use Rattle.header.proofs.goals_fine.Statement.{statement}
+use Rattle.header.proofs.goals_fine.Tie as tie
+
+byte-requires : tie.Need-byte-requires
+byte-requires c κs = search needs
+
+returns : tie.Need-returns
+returns c = ap (λ (x : ℕ). R.between 1 32 x) (c .byte .ensures)
+
+pub goals-fine-spec : {M : Type 1} → statement M
+goals-fine-spec = tie.close (tie.spec byte-requires returns)
