@@ -6,37 +6,25 @@ ghost use Prim.Native.Nat.{_+_, _*_, _<_, _≤_, _^_};
 ghost use lib.ListN.{length, replicate};
 ghost use Rattle.fields.specs.Fields as F;
 ghost use Rattle.reading.specs.Reading as R;
+ghost use Rattle.pairs.specs.Order as O;
+ghost use Rattle.decoding.specs.Clause as C;
 ghost use Rattle.decoding.specs.Decoding as D;
 
-// Whether the goal that starts at `at`, with k text bytes, is as it must be.
-fn fine_goal(b: &[u8], at: usize, v: u32, k: usize) -> bool
-    requires { ⌜ (at < 2 ^ 32) × (k < 256) × (v ≡ F.varCount (now b)) × (k ≡ F.textLengthAt (now b) at) ⌝ }
-    ensures { λ r. ⌜ r ≡ D.fineGoal (now (b .entry)) at ⌝ }
-{
-    let text = at + 9;
-    if text + k <= b.len() {
-        if sets::within(fields::whole_set(b, at), v) & ((1 <= k) & (k <= 40)) {
-            return goals::clean(b, text, k);
-        }
-    }
-    false
-}
-
-// Stores the set of each of the n goals: where they end, or 0 if one of them is not as it must be.
+// Stores the sets of the n goals: where the goals end, or 0 if something of them is refused.
 fn take_goals(b: &[u8], n: usize, v: u32, goals: &mut [u64; 32]) -> usize
     requires { ⌜ (n ≤ 32) × (n ≡ F.goalCount (now b)) × (v ≡ F.varCount (now b)) × (now goals ≡ replicate 32 0) ⌝ }
     ensures { λ r. ⌜ (0 < r → D.GoalsTaken (now (b .entry)) r (now (goals .exit))) ⌝ }
-    ensures { λ r. ⌜ (r ≡ 0 → D.Ill (now (b .entry))) ⌝ }
+    ensures { λ r. ⌜ (r ≡ 0 → D.restFine (now (b .entry)) ≡ false) ⌝ }
     ensures { λ r. ⌜ r < 2 ^ 32 ⌝ }
 {
     let mut at: usize = 24;
     let mut g: usize = 0;
     while g < n {
-        let k = fields::size_of(fields::byte(b, at + 8));
-        if fine_goal(b, at, v, k) {
+        let k = fields::text_length_at(b, at);
+        if goals::goal_fine(b, at, v, k) {
             let next = g + 1;
             goals[g] = fields::whole_set(b, at);
-            at = at + 9 + k;
+            at = fields::text_at(b, at) + k;
             g = next;
         } else {
             return 0;
@@ -48,8 +36,8 @@ fn take_goals(b: &[u8], n: usize, v: u32, goals: &mut [u64; 32]) -> usize
 // Stores the p pairs, which stand from `from` on, in the rows: whether all are in order.
 fn take_pairs(b: &[u8], from: usize, v: u32, p: usize, rows: &mut [u64; 64]) -> bool
     requires { ⌜ (from + 2 * p ≤ length (now b)) × (v ≤ 64) × (v ≡ F.varCount (now b)) × (p ≡ F.pairCount (now b)) × (from ≡ F.pairsPlace (now b)) × (now rows ≡ replicate 64 0) ⌝ }
-    ensures { λ r. ⌜ (r ≡ true → D.PairsTaken (now (b .entry)) (now (rows .exit))) ⌝ }
-    ensures { λ r. ⌜ (r ≡ false → D.Ill (now (b .entry))) ⌝ }
+    ensures { λ r. ⌜ r ≡ O.inOrder (now (b .entry)) p ⌝ }
+    ensures { λ r. ⌜ (r ≡ true → now (rows .exit) ≡ C.pairRows (now (b .entry))) ⌝ }
 {
     let mut last: u32 = 0;
     let mut k: usize = 0;
@@ -72,11 +60,11 @@ fn take_pairs(b: &[u8], from: usize, v: u32, p: usize, rows: &mut [u64; 64]) -> 
     true
 }
 
-// Decodes what follows the header: whether all of it is as it must be.
+// Decodes what follows the header: whether nothing of it is refused.
 fn rest(b: &[u8], goals: &mut [u64; 32], rows: &mut [u64; 64]) -> bool
     requires { ⌜ (F.goalCount (now b) ≤ 32) × (F.varCount (now b) ≤ 64) × (now goals ≡ replicate 32 0) × (now rows ≡ replicate 64 0) ⌝ }
-    ensures { λ r. ⌜ (r ≡ true → D.RestTaken (now (b .entry)) (now (goals .exit)) (now (rows .exit))) ⌝ }
-    ensures { λ r. ⌜ (r ≡ false → D.Ill (now (b .entry))) ⌝ }
+    ensures { λ r. ⌜ r ≡ D.restFine (now (b .entry)) ⌝ }
+    ensures { λ r. ⌜ (r ≡ true → D.Stored (now (b .entry)) (now (goals .exit)) (now (rows .exit))) ⌝ }
 {
     let n = fields::size_of(fields::byte(b, 5));
     let v = fields::small(fields::byte(b, 6));
@@ -98,14 +86,10 @@ pub fn read(b: &[u8], goals: &mut [u64; 32], rows: &mut [u64; 64]) -> Reading
     ensures { λ r. ⌜ r ≡ R.reading (now (b .entry)) ⌝ }
     ensures { λ r. ⌜ D.Decoded (now (b .entry)) r (now (goals .exit)) (now (rows .exit)) ⌝ }
 {
-    let s = header::header(b);
-    match s {
-        Reading::Refused(r) => record::read(b),
-        Reading::Fine => {
-            if rest(b, goals, rows) {
-                return Reading::Fine;
-            }
-            record::read(b)
+    if header::header_fine(b) {
+        if rest(b, goals, rows) {
+            return Reading::Fine;
         }
     }
+    record::read(b)
 }

@@ -15,7 +15,7 @@ fn text_byte(x: u8) -> bool
 }
 
 // Whether each of the k bytes from `from` on is a text byte.
-pub fn clean(b: &[u8], from: usize, k: usize) -> bool
+fn clean(b: &[u8], from: usize, k: usize) -> bool
     requires { ⌜ from + k ≤ length (now b) ⌝ }
     ensures { λ r. ⌜ r ≡ T.clean (now (b .entry)) from k ⌝ }
 {

@@ -17,7 +17,7 @@ fine-must Fine true k p = refl
 fine-must Fine false k p = refl
 fine-must (Refused r) t k p = refl
 
-fine-is : (s : Reading) → fine s ≡ true → s ≡ Fine
+pub fine-is : (s : Reading) → fine s ≡ true → s ≡ Fine
 unfolding fine
 fine-is Fine e = refl
 fine-is (Refused r) e = absurd (false≢true e)

@@ -22,7 +22,7 @@ use Rattle.record.specs.WellFormed.{NoBitFrom, WellFormedGoal, WellForme
 no-bit : (v m : ℕ) → within v m ≡ true → NoBitFrom v m
 no-bit v m e x h = has-above v m x (within-lt v m e) h
 
-pub bits-within : (v m : ℕ) → NoBitFrom v m → within v m ≡ true
+bits-within : (v m : ℕ) → NoBitFrom v m → within v m ≡ true
 bits-within v m h = lt-within v m (below-of v m h)
 
 module _ (b : List ℕ) where
@@ -60,7 +60,7 @@ module _ (b : List ℕ) where
         ∙ must-so _ _ _ _ (le-leb _ _ (w .text-whole)) ∙ must-so _ _ _ _ (between-in 1 textLimit (textLengthAt b at) (w .length-from) (w .length-to))
         ∙ must-so _ _ _ _ (bits-within (varCount b) (set b at) (w .set-below)) ∙ must-so _ _ _ _ (le-leb _ _ (w .fixed-whole))
 
-  pub goals-fine : (n : ℕ) (s : Reading) → goals b n s ≡ Fine → s ≡ Fine
+  goals-fine : (n : ℕ) (s : Reading) → goals b n s ≡ Fine → s ≡ Fine
   unfolding goals
   goals-fine zero s e = e
   goals-fine (suc n) s e = goals-fine n s (goal-fine (placeAfter b n) _ e)
@@ -109,19 +109,17 @@ module _ (b : List ℕ) where
         ascending = ascends-out k (and-r (ltb low high && ltb high (varCount b)) (ascends b k) t);
       }
 
-  pub pair-ordered : (k : ℕ) → WellFormedPair b k → ordered b (pairAt b k) && ascends b k ≡ true
-  unfolding ordered
-  pair-ordered k w =
+  pair-in : (k : ℕ) (s : Reading) → WellFormedPair b k → pair b k s ≡ s
+  unfolding pair ordered
+  pair-in k s w =
       let low = byte b (pairAt b k) in
       let high = byte b (pairAt b k + 1) in
-      and-i (ltb low high && ltb high (varCount b)) (ascends b k)
-      (and-i (ltb low high) (ltb high (varCount b)) (lt-ltb low high (w .lower-first)) (lt-ltb high (varCount b) (w .pair-below))) (ascends-in k (w .ascending))
+      must-so _ _ _ _
+      (and-i (ltb low high && ltb high (varCount b)) (ascends b k)
+      (and-i (ltb low high) (ltb high (varCount b)) (lt-ltb low high (w .lower-first)) (lt-ltb high (varCount b) (w .pair-below))) (ascends-in k (w .ascending)))
+      ∙ must-so _ _ _ _ (le-leb _ _ (w .pair-whole))
 
-  pair-in : (k : ℕ) (s : Reading) → WellFormedPair b k → pair b k s ≡ s
-  unfolding pair
-  pair-in k s w = must-so _ _ _ _ (pair-ordered k w) ∙ must-so _ _ _ _ (le-leb _ _ (w .pair-whole))
-
-  pub pairs-fine : (n : ℕ) (s : Reading) → pairs b n s ≡ Fine → s ≡ Fine
+  pairs-fine : (n : ℕ) (s : Reading) → pairs b n s ≡ Fine → s ≡ Fine
   unfolding pairs
   pairs-fine zero s e = e
   pairs-fine (suc n) s e = pairs-fine n s (pair-fine n _ e)

@@ -1,9 +1,9 @@
-use mathlib.Core.Path.{_∙_}
+use mathlib.Core.Path.{_∙_, sym}
 use mathlib.Core.Bool.{false≢true}
 use native.Mathlib.Omega.{arith}
 use borrow.Author.Needs.{needs}
 use denote.Ref.{now}
-use Rattle.decoding.proofs.Whole.{end-so, end-ill}
+use Rattle.decoding.proofs.Pairs.{end-there, end-elsewhere}
 use Rattle.decoding.proofs.rest.Statement.{statement}
 use Rattle.decoding.proofs.rest.Tie as tie
 
@@ -29,7 +29,7 @@ take-goals-requires : tie.Need-take-goals-requires
 take-goals-requires c κs = search needs
 
 returns : tie.Need-returns
-returns c = (λ e. absurd (false≢true e), λ e. c .before .take-goals .ensures .1 .0 (c .if1 .taken))
+returns c = (sym (c .before .take-goals .ensures .1 .0 (c .if1 .taken)), λ e. absurd (false≢true e))
 
 mul-if2 : tie.Need-mul-if2
 mul-if2 c = search needs
@@ -46,25 +46,19 @@ take-pairs-requires c κs = let d = c .before .before .before in
 
 returns-2 : tie.Need-returns-2
 returns-2 c = let d = c .before .before .before .before in
-    let s = d .before .before .before .before .before .before .before .before .before in
+    let b = now (d .before .before .before .before .before .before .before .before .before .args .b) in
     let p = d .before .before .size-of2 .ensures .0 ∙ d .before .before .before .byte3 .ensures in
     let t = d .take-goals .ensures .0 (omega (arith, c .before .before .before .if1 .left)) in (
-      λ e.
-          let q = c .take-pairs .ensures .0 e in
-          record {
-            fine = end-so (now (s .args .b)) _ _ (t .place) p (c .before .before .if2 .taken) (t .fine) (q .fine);
-            sets = t .stored;
-            pairs = q .stored;
-          },
-      c .take-pairs .ensures .1,
+      end-there b _ _ (t .place) p (t .accepted) _ (c .take-pairs .ensures .0) (c .before .before .if2 .taken),
+      λ e. (t .stored, c .take-pairs .ensures .1 e),
     )
 
 returns-3 : tie.Need-returns-3
 returns-3 c = let d = c .before .before in
-    let s = d .before .before .before .before .before .before .before .before .before in
+    let b = now (d .before .before .before .before .before .before .before .before .before .args .b) in
     let p = d .before .before .size-of2 .ensures .0 ∙ d .before .before .before .byte3 .ensures in
     let t = d .take-goals .ensures .0 (omega (arith, c .before .if1 .left)) in
-    (λ e. absurd (false≢true e), λ e. end-ill (now (s .args .b)) _ _ (t .place) p (c .if2 .left))
+    (end-elsewhere b _ _ (t .place) p (t .accepted) (c .if2 .left), λ e. absurd (false≢true e))
 
 pub rest-spec : {M : Type 1} → statement M
 rest-spec =

@@ -1,6 +1,6 @@
 use Prim.Native.Nat.{ℕ, _≤_, _<_, _*_, _+_, _-_}
 use mathlib.Core.Path.{_≡_, sym, ap, _∙_}
-use mathlib.Core.Bool.{true, _&&_, true≢false, false≢true}
+use mathlib.Core.Bool.{true, _&&_, false≢true}
 use native.Mathlib.Omega.{arith}
 use lib.Dec.{ltb}
 use borrow.Author.Needs.{needs}
@@ -10,9 +10,9 @@ use Rattle.logic.proofs.Bools.{and-l, and-r}
 use Rattle.fields.specs.Fields as F
 use Rattle.pairs.specs.Order as O
 use Rattle.pairs.proofs.Turns as T
-use Rattle.pairs.proofs.Turns.{last-zero, last-turn, order-zero, order-none}
+use Rattle.pairs.proofs.Turns.{last-zero, last-turn, order-zero}
 use Rattle.decoding.proofs.PairRows.{rowsAfter, rows-zero, rows-turn, rows-all}
-use Rattle.decoding.proofs.Pairs.{pair-so, pair-ill}
+use Rattle.decoding.proofs.Pairs.{pair-more, pair-fails}
 use Rattle.decoding.proofs.take_pairs.Statement.{statement}
 use Rattle.decoding.proofs.take_pairs.Tie as tie
 
@@ -118,30 +118,23 @@ loop-again c = let d = c .before .before in
       omega arith,
       rows-turn b (l .k) _ _ (l .rows) (h .0) (h .1) (low ∙ ap (F.byte b) place) (high ∙ ap (λ (x : ℕ). F.byte b (x + 1)) place) (l .inv .1),
       last-turn b (s .args .from) _ _ (l .k) (s .pre .4) low high,
-      pair-so b (s .args .from) (s .args .v) _ _ (l .last) (l .k) (s .pre .4) (s .pre .2) low high (l .inv .2) (l .inv .3) (d .if1 .taken),
+      pair-more b (s .args .from) (s .args .v) _ _ (l .last) (l .k) (s .pre .4) (s .pre .2) low high (l .inv .2) (l .inv .3) (d .if1 .taken),
     )
 
 returns : tie.Need-returns Inv-loop μ-loop
 returns c = let l = c .before .before .before .before .before .before .loop in
     let s = c .before .before .before .before .before .before .before .before in
-    let b = now (s .args .b) in
     let low = c .before .before .before .small .ensures .0 in
     let high = c .before .small2 .ensures .0 in
-    let ill = pair-ill b (s .args .from) (s .args .v) _ _ (l .last) (l .k) (s .pre .4) (s .pre .2) low high (l .inv .2) (l .inv .3) (omega (arith, s .pre .3)) (c .if1 .left) in
-    (λ e. absurd (false≢true e), λ e. ill)
+    let bad = pair-fails (now (s .args .b)) (s .args .from) (s .args .v) _ _ (l .last) (l .k) (s .pre .4) (s .pre .2) low high (l .inv .2) (l .inv .3) (s .args .p) (omega arith) (c .if1 .left) in
+    (sym bad, λ e. absurd (false≢true e))
 
 returns-2 : tie.Need-returns-2 Inv-loop μ-loop
 returns-2 c = let l = c .before .loop in
     let s = c .before .before .before in
     let b = now (s .args .b) in
-    let e : l .k ≡ F.pairCount b = omega (arith, s .pre .3) in (
-      λ h.
-          record {
-            fine = λ r. sym (order-none b (F.pairCount b) r (omega (arith, s .pre .3, s .pre .4)) (sym (ap (O.inOrder b) e) ∙ l .inv .3));
-            stored = l .inv .1 ∙ rows-all b (l .k) e;
-          },
-      λ h. absurd (true≢false h),
-    )
+    let e : l .k ≡ s .args .p = omega arith in
+    (sym (l .inv .3) ∙ ap (O.inOrder b) e, λ h. l .inv .1 ∙ rows-all b (l .k) (e ∙ s .pre .3))
 
 pub take-pairs-spec : {M : Type 1} → statement M
 take-pairs-spec =
