@@ -22,7 +22,7 @@ Rising rows = (i j : ℕ) → ahead rows i j ≡ true → i < j
 unfoldable pub closing : Graph → Graph
 closing g = graphOf (g .n) (closed (ahead (g .rows)) (g .n))
 
--- what a number leads to by the rows has all that it leads to
+-- the rows, counted from 0, are closed: where i leads to j, and j to k, i leads to k
 abbrev pub Closed : List ℕ → Type 0
 Closed rows = (i j k : ℕ) → has (getD rows i 0) j ≡ true → has (getD rows j 0) k ≡ true → has (getD rows i 0) k ≡ true
 
