@@ -80,6 +80,24 @@ fn start(prior: &[u32; 32], k: bool, rest: u32) -> usize
     x
 }
 
+// A member of a form: a goal, less one, from which it is found, and its goals.
+struct Part {
+    start: usize,
+    goals: u32,
+}
+
+// The first member of what is left.
+fn member(after: &[u32; 32], prior: &[u32; 32], k: bool, rest: u32) -> Part
+    requires { ⌜ Strict (Hang.behind (now prior)) (Has rest) × Turned (now after) (now prior) rest × ((g : _) × Has rest g) ⌝ }
+    ensures { λ r. ⌜ (r .start < 32) × Has rest (suc (r .start)) ⌝ }
+    ensures { λ r. ⌜ Starts (Hang.behind (now (prior .entry))) k (Has rest) (suc (r .start)) ⌝ }
+    ensures { λ r. ⌜ Component (ahead (now (after .entry))) k (Has rest) (suc (r .start)) (Has (r .goals)) ⌝ }
+{
+    let x = start(prior, k, rest);
+    let goals = component(after, prior, k, rest, x);
+    Part { start: x, goals }
+}
+
 // The byte between two members.
 fn mark(k: bool) -> u8
     ensures { λ r. ⌜ r ≡ T.mark k ⌝ }
@@ -108,8 +126,8 @@ pub fn put_form(
     let mut o = text::put_if(out, at, b'(', nested);
     let mut rest = set;
     while rest != 0 {
-        let y = start(prior, k, rest);
-        let c = component(after, prior, k, rest, y);
+        let m = member(after, prior, k, rest);
+        let c = m.goals;
         o = put_form(out, o, after, prior, c, true);
         rest = sets::without32(rest, c);
         o = text::put_if(out, o, sep, rest != 0);

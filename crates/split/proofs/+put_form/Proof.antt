@@ -26,7 +26,7 @@ use Rattle.sets.proofs.single32.Reads as single32-reads
 use Rattle.sets.proofs.without32.Reads as without32-reads
 use Rattle.split.proofs.component.Reads as component-reads
 use Rattle.split.proofs.mark.Reads as mark-reads
-use Rattle.split.proofs.start.Reads as start-reads
+use Rattle.split.proofs.member.Reads as member-reads
 use Rattle.text.proofs.put_if.Reads as put-if-reads
 use Rattle.text.proofs.put_number.Reads as put-number-reads
 use Rattle.split.proofs.+put_form.{statement}
@@ -44,7 +44,7 @@ put-form-below t =
 
 -- the callees' contracts
 abbrev put-form-K : ℕ → put-form-lts.Claims
-put-form-K t = (first32-reads.Asked, first32-reads.Learnt, single32-reads.Asked, single32-reads.Learnt, put-number-reads.Asked, put-number-reads.Learnt, component-reads.Asked, component-reads.Learnt, mark-reads.Asked, mark-reads.Learnt, put-if-reads.Asked, put-if-reads.Learnt, start-reads.Asked, start-reads.Learnt, put-form-below t, put-form.Post, without32-reads.Asked, without32-reads.Learnt)
+put-form-K t = (first32-reads.Asked, first32-reads.Learnt, single32-reads.Asked, single32-reads.Learnt, put-number-reads.Asked, put-number-reads.Learnt, component-reads.Asked, component-reads.Learnt, mark-reads.Asked, mark-reads.Learnt, put-if-reads.Asked, put-if-reads.Learnt, member-reads.Asked, member-reads.Learnt, put-form-below t, put-form.Post, without32-reads.Asked, without32-reads.Learnt)
 
 abbrev put-form-Inv-loop : put-form-lts.InvT-loop
 put-form-Inv-loop out₀ at after prior set nested x k sep o₀ rest₀ out o rest = Going after k nested set o₀ out₀ rest o out
@@ -103,18 +103,18 @@ rest-ordered : (t : ℕ) (c : put-form-lts.In-loop (put-form-K t) (put-form-at t
 rest-ordered t c = let g = rest-some t c in ordered-part _ _ (c .before .loop .inv .part) (g .0) (g .1) (c .before .before .before .before .before .before .before .before .before .before .before .before .pre .1 .0)
 
 -- one turn
-a-step : (t : ℕ) (c : put-form-lts.After-component2 (put-form-K t) (put-form-at t) put-form.Post put-form-Inv-loop put-form-μ-loop) →
-    let a = c .before .before .before .before .before .before .before .before .before .before .before .before .before .before .args in
-    let l = c .before .before .before .loop in
-    Step (a .after .now) (a .prior .now) (eqb (c .before .before .before .before .before .before .before .before .before .component .result) (a .set)) (a .nested) (a .set) (c .before .before .before .before .before .before .put-if .result) (c .before .before .before .before .before .before .put-if .last .0)
-    (l .rest) (l .o) (l .out) (c .component2 .result)
+a-step : (t : ℕ) (c : put-form-lts.After-member (put-form-K t) (put-form-at t) put-form.Post put-form-Inv-loop put-form-μ-loop) →
+    let a = c .before .before .before .before .before .before .before .before .before .before .before .before .before .args in
+    let l = c .before .before .loop in
+    Step (a .after .now) (a .prior .now) (eqb (c .before .before .before .before .before .before .before .before .component .result) (a .set)) (a .nested) (a .set) (c .before .before .before .before .before .put-if .result) (c .before .before .before .before .before .put-if .last .0)
+    (l .rest) (l .o) (l .out) (c .member .result .goals)
 a-step t c =
-    let s = c .before .before .before .before .before .before .before .before .before .before .before .before .before .before in
+    let s = c .before .before .before .before .before .before .before .before .before .before .before .before .before in
     let l : s .args .set < 2 ^ 32 = search needs in
-    let r = part-lt 32 _ _ (c .before .before .before .loop .inv .part) l in
-    let j = joins t (c .before .before .before .before .before .before .before .before .before) in
-    let f = c .before .start .ensures in
-    step _ _ _ _ _ l r (s .pre .1 .0) (j .0) (j .1) (j .2) (c .before .before .before .loop .inv) _ _ (f .1) (f .2) (c .component2 .ensures)
+    let r = part-lt 32 _ _ (c .before .before .loop .inv .part) l in
+    let j = joins t (c .before .before .before .before .before .before .before .before) in
+    let f = c .member .ensures in
+    step _ _ _ _ _ l r (s .pre .1 .0) (j .0) (j .1) (j .2) (c .before .before .loop .inv) _ _ (f .0 .1) (f .1 .0) (f .1 .1)
 
 put-form-first32-requires : (t : ℕ) → put-form-lts.Need-first32-requires (put-form-K t) (put-form-at t) put-form.Post put-form-Inv-loop put-form-μ-loop
 put-form-first32-requires t c κs = search needs
@@ -159,30 +159,27 @@ put-form-loop-holds t c =
     let j = joins t (c .before .before .before .before .before) in
     go-start _ (s .args .prior .now) _ _ _ (j .0) (j .1) (j .2) (form-of _ (s .args .prior .now) _ l (s .pre .1 .0)) _ _
 
-put-form-start-requires : (t : ℕ) → put-form-lts.Need-start-requires (put-form-K t) (put-form-at t) put-form.Post put-form-Inv-loop put-form-μ-loop
-put-form-start-requires t c κs = (ordered-behind _ _ (rest-ordered t c), rest-some t c)
-
-put-form-component-requires-2 : (t : ℕ) → put-form-lts.Need-component-requires-2 (put-form-K t) (put-form-at t) put-form.Post put-form-Inv-loop put-form-μ-loop
-put-form-component-requires-2 t c κs = (c .start .ensures .0, c .start .ensures .1, rest-ordered t (c .before) .turned)
+put-form-member-requires : (t : ℕ) → put-form-lts.Need-member-requires (put-form-K t) (put-form-at t) put-form.Post put-form-Inv-loop put-form-μ-loop
+put-form-member-requires t c κs = (ordered-behind _ _ (rest-ordered t c), rest-ordered t c .turned, rest-some t c)
 
 put-form-put-form-requires : (t : ℕ) → put-form-lts.Need-put-form-requires (put-form-K t) (put-form-at t) put-form.Post put-form-Inv-loop put-form-μ-loop
 put-form-put-form-requires t c κs =
     let w = a-step t (c .before) in
-    (omega (arith, w .fewer, c .before .before .before .before .before .before .before .before .before .before .before .before .before .before .before .pre .0), (w .ordered, omega (arith, w .room, bound t (c .before .before .before .before .before))))
+    (omega (arith, w .fewer, c .before .before .before .before .before .before .before .before .before .before .before .before .before .before .pre .0), (w .ordered, omega (arith, w .room, bound t (c .before .before .before .before))))
 
 put-form-without32-requires : (t : ℕ) → put-form-lts.Need-without32-requires (put-form-K t) (put-form-at t) put-form.Post put-form-Inv-loop put-form-μ-loop
 put-form-without32-requires t c κs = search needs
 
 put-form-put-if-requires-2 : (t : ℕ) → put-form-lts.Need-put-if-requires-2 (put-form-K t) (put-form-at t) put-form.Post put-form-Inv-loop put-form-μ-loop
-put-form-put-if-requires-2 t c κs = omega (arith, a-step t (c .before .before .before .before .before .before) .room, bound t (c .before .before .before .before .before .before .before .before .before .before), c .before .before .before .before .put-form .ensures .place)
+put-form-put-if-requires-2 t c κs = omega (arith, a-step t (c .before .before .before .before .before .before) .room, bound t (c .before .before .before .before .before .before .before .before .before), c .before .before .before .before .put-form .ensures .place)
 
 put-form-loop-less : (t : ℕ) → put-form-lts.Need-loop-less (put-form-K t) (put-form-at t) put-form.Post put-form-Inv-loop put-form-μ-loop
-put-form-loop-less t c = subst (λ (z : ℕ). count z < count (c .before .before .before .before .before .before .before .before .before .before .before .before .loop .rest)) (sym (c .before .before .before .before .without32 .ensures)) (a-step t (c .before .before .before .before .before .before .before .before .before) .less)
+put-form-loop-less t c = subst (λ (z : ℕ). count z < count (c .before .before .before .before .before .before .before .before .before .before .before .loop .rest)) (sym (c .before .before .before .before .without32 .ensures)) (a-step t (c .before .before .before .before .before .before .before .before .before) .less)
 
 put-form-loop-again : (t : ℕ) → put-form-lts.Need-loop-again (put-form-K t) (put-form-at t) put-form.Post put-form-Inv-loop put-form-μ-loop
 put-form-loop-again t c =
     let w = a-step t (c .before .before .before .before .before .before .before .before .before) in
-    let m = c .before .before .before .before .before .before .before .before .before .before .before .before .before .before .before .before .before .mark .ensures in
+    let m = c .before .before .before .before .before .before .before .before .before .before .before .before .before .before .before .before .mark .ensures in
     w .on (c .before .before .before .before .before .before .before .put-form .ensures) _ (c .before .before .before .before .without32 .ensures) (recast (ap (only (not (eqb (c .before .before .before .before .without32 .result) 0))) m) (c .before .before .put-if2 .ensures))
 
 put-form-put-if-requires-3 : (t : ℕ) → put-form-lts.Need-put-if-requires-3 (put-form-K t) (put-form-at t) put-form.Post put-form-Inv-loop put-form-μ-loop
@@ -215,8 +212,7 @@ pub +put-form-spec : {M : Type 1} → statement M
     (put-form-mark-requires t)
     (put-form-put-if-requires t)
     (put-form-loop-holds t)
-    (put-form-start-requires t)
-    (put-form-component-requires-2 t)
+    (put-form-member-requires t)
     (put-form-put-form-requires t)
     (put-form-without32-requires t)
     (put-form-put-if-requires-2 t)
