@@ -1,5 +1,6 @@
 -- Laws of the texts that the writers write.
-use mathlib.Core.Path.{_≡_, refl, sym, ap, _∙_}
+use mathlib.Core.Path.{_≡_, refl, sym, ap, ap₂, _∙_}
+use mathlib.Core.Logic.{inl, inr}
 use mathlib.Core.Bool.{Bool, true, false}
 use mathlib.Core.List.{List, [], _∷_, _++_, map, append-assoc}
 use Prim.Native.Nat.{ℕ, suc, _+_, _-_, _≤_, _<_, _^_, max, suc-le-suc}
@@ -7,16 +8,16 @@ use native.Mathlib.Nat.{le-refl}
 use native.Mathlib.Numerals.{add-one}
 use native.Mathlib.Omega.{arith}
 use lib.Dec.{ltb}
-use lib.ListN.{length, length-append}
+use lib.ListN.{length, getD, length-append}
 use lib.Seq.{sets}
 use borrow.Author.Tests.{lt-ltb, le-ltb}
 use Rattle.sets.specs.Sets.{without, single, first, members}
-use Rattle.sets.proofs.Members.{members-step, members-none}
+use Rattle.sets.proofs.Members.{In, in-members, members-step, members-none}
 use Rattle.text.specs.Text.{Wrote, decimal, joinFrom, some, only}
 use Rattle.text.proofs.Laws.{join-step, join-none, recast, over}
 use Rattle.stages.specs.Mel.{Check, Ground, Indep, goal, goalsFrom, checkText, checksFrom, arrowIf, goalsText}
-use Rattle.stages.specs.Masks.{partners}
-use Rattle.mel.specs.Texts.{item, groundsText, rowText, pairsOf, pairsText}
+use Rattle.stages.specs.Masks.{goalWith, apart, partners, OwnGoals}
+use Rattle.mel.specs.Texts.{item, groundsText, rowText, pairsOf, pairsText, rowsOf, rowsText}
 
 -- ---- checks, one after the other
 
@@ -83,6 +84,10 @@ around-some (c ∷ l) h =
 
 -- ---- the steps of the loops
 
+next-place : (l : List ℕ) (x : ℕ) → goal l (x + 1) ≡ getD l x 0
+unfolding goal
+next-place l x = let i : x + 1 - 1 ≡ x = omega arith in rw i
+
 pub grounds-step : (rest : ℕ) → rest < 2 ^ 64 → (rest ≡ 0 → ⊥)
     → groundsText rest ≡ item (Ground (first 64 rest)) ++ groundsText (without rest (single (first 64 rest)))
 unfolding groundsText
@@ -105,19 +110,38 @@ pub row-end : (x rest : ℕ) → rest ≡ 0 → rowText x rest ≡ []
 unfolding rowText
 row-end x rest e = rw (e, members-none 64) (checks-none true)
 
-module _ (sets rows : List ℕ) (p q k : ℕ) where
-  pub pairs-step : (rest : ℕ) → rest < 2 ^ 64 → (rest ≡ 0 → ⊥) →
+module _ (own rows : List ℕ) (k : ℕ) where
+  pub rows-step : (rest : ℕ) → rest < 2 ^ 64 → (rest ≡ 0 → ⊥) →
       let x = first 64 rest in
-      pairsText sets rows p q k rest ≡ rowText x (partners sets p q k (goal rows (x + 1)) x) ++ pairsText sets rows p q k (without rest (single x))
-  unfolding pairsText rowText pairsOf
-  pairs-step rest h n =
+      rowsText own rows k rest ≡ rowText x (apart k (goal rows (x + 1)) (goal own (x + 1)) x) ++ rowsText own rows k (without rest (single x))
+  unfolding rowsText rowText rowsOf
+  rows-step rest h n =
       let x = first 64 rest in
-      ap (λ (l : List ℕ). checksFrom true (pairsOf sets rows p q k l)) (members-step 64 rest h n)
-      ∙ checks-append (map (Indep x) (members 64 (partners sets p q k (goal rows (x + 1)) x))) (pairsOf sets rows p q k (members 64 (without rest (single x))))
+      ap (λ (l : List ℕ). checksFrom true (rowsOf own rows k l)) (members-step 64 rest h n)
+      ∙ checks-append (map (Indep x) (members 64 (apart k (goal rows (x + 1)) (goal own (x + 1)) x))) (rowsOf own rows k (members 64 (without rest (single x))))
 
-  pub pairs-end : (rest : ℕ) → rest ≡ 0 → pairsText sets rows p q k rest ≡ []
+  pub rows-end : (rest : ℕ) → rest ≡ 0 → rowsText own rows k rest ≡ []
+  unfolding rowsText rowsOf
+  rows-end rest e = rw (e, members-none 64) (checks-none true)
+
+module _ (sets rows : List ℕ) (p q k : ℕ) where
+  pub pairs-none : k ≡ 0 → [] ≡ pairsText sets rows p q k k
   unfolding pairsText pairsOf
-  pairs-end rest e = rw (e, members-none 64) (checks-none true)
+  pairs-none e = sym (rw (e, members-none 64) (checks-none true))
+
+  -- the sets of the candidates' goals, found once
+  same-rows : (own l : List ℕ) → ((x : ℕ) → In x l → goal own (x + 1) ≡ goalWith sets p q x) → rowsOf own rows k l ≡ pairsOf sets rows p q k l
+  unfolding rowsOf pairsOf partners
+  same-rows own [] h = refl
+  same-rows own (x ∷ l) h =
+      ap₂ (λ (a : ℕ) (b : List Check). map (Indep x) (members 64 (apart k (goal rows (x + 1)) a x)) ++ b) (h x (inl refl)) (same-rows own l (λ y i. h y (inr i)))
+
+  pub own-rows : (own : List ℕ) → OwnGoals sets p q k own → rowsText own rows k k ≡ pairsText sets rows p q k k
+  unfolding rowsText pairsText OwnGoals
+  own-rows own h =
+      ap (checksFrom true) (same-rows own (members 64 k) (λ x i.
+      let m = in-members 64 0 k x i in
+      next-place own x ∙ h x (omega (arith, m .1)) (m .2)))
 
 -- ---- the parts of a check, as the code writes them
 

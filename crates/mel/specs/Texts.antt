@@ -7,7 +7,7 @@ use Rattle.sets.specs.Sets.{union, without, members}
 use Rattle.text.specs.Text.{decimal}
 use Rattle.stages.specs.Mel as W
 use Rattle.stages.specs.Mel.{Check, Ground, Indep, goal, checkText, checksFrom, checks}
-use Rattle.stages.specs.Masks.{given, once, twice, candidates, partners}
+use Rattle.stages.specs.Masks.{given, once, twice, candidates, apart, partners}
 
 -- the variables of the ground checks of the stage p+1 to q, and those that its independence checks are made of
 abbrev pub groundSet : List ℕ → List ℕ → ℕ → ℕ → ℕ
@@ -34,6 +34,14 @@ pairsOf sets rows p q k (x ∷ xs) = map (Indep x) (members 64 (partners sets p 
 
 unfoldable pub pairsText : List ℕ → List ℕ → ℕ → ℕ → ℕ → ℕ → List ℕ
 pairsText sets rows p q k rest = checksFrom true (pairsOf sets rows p q k (members 64 rest))
+
+-- the same where own has the set of each x's goal
+unfoldable pub rowsOf : List ℕ → List ℕ → ℕ → List ℕ → List Check
+rowsOf own rows k [] = []
+rowsOf own rows k (x ∷ xs) = map (Indep x) (members 64 (apart k (goal rows (x + 1)) (goal own (x + 1)) x)) ++ rowsOf own rows k xs
+
+unfoldable pub rowsText : List ℕ → List ℕ → ℕ → ℕ → List ℕ
+rowsText own rows k rest = checksFrom true (rowsOf own rows k (members 64 rest))
 
 -- the length of texts that have `each` bytes and a number, one for each number of a list
 unfoldable pub numbersLength : ℕ → List ℕ → ℕ

@@ -68,7 +68,25 @@ fn put_row(out: &mut [u8], at: usize, x: u8, set: u64) -> usize
     o
 }
 
-// Writes the check of each candidate with its partners, ascending, a comma before each.
+// Writes the check of each candidate with its partners, ascending, a comma before each; own has the set of each candidate's goal.
+fn put_rows(out: &mut [u8], at: usize, own: &[u64], rows: &[u64], k: u64) -> usize
+    requires { ⌜ at + length (X.rowsText (now own) (now rows) k k) ≤ length (now out) ⌝ }
+    ensures { λ r. ⌜ Wrote (X.rowsText (now (own .entry)) (now (rows .entry)) k k) at (now (out .entry)) r (now (out .exit)) ⌝ }
+{
+    let mut o = at;
+    let mut rest = k;
+    while rest != 0 {
+        let x = sets::first(rest);
+        let row = stages::goal(rows, x as usize + 1);
+        let h = stages::goal(own, x as usize + 1);
+        let others = stages::partners(k, row, h, x);
+        o = put_row(out, o, x as u8, others);
+        rest = sets::without_first(rest);
+    }
+    o
+}
+
+// Writes the independence checks of the candidates k of the stage p+1 to q.
 fn put_pairs(
     out: &mut [u8],
     at: usize,
@@ -82,16 +100,12 @@ fn put_pairs(
     requires { ⌜ at + length (X.pairsText (now sets) (now rows) p q k k) ≤ length (now out) ⌝ }
     ensures { λ r. ⌜ Wrote (X.pairsText (now (sets .entry)) (now (rows .entry)) p q k k) at (now (out .entry)) r (now (out .exit)) ⌝ }
 {
-    let mut o = at;
-    let mut rest = k;
-    while rest != 0 {
-        let x = sets::first(rest);
-        let row = stages::goal(rows, x as usize + 1);
-        let others = stages::partners(sets, p, q, k, row, x);
-        o = put_row(out, o, x as u8, others);
-        rest = sets::without_first(rest);
+    if k == 0 {
+        return at;
     }
-    o
+    let mut own = [0u64; 64];
+    stages::own_goals(&mut own, sets, p, q, k);
+    put_rows(out, at, &own, rows, k)
 }
 
 // Writes the goals p+1 to q, `&` between them.
@@ -253,21 +267,35 @@ fn row_length(x: u8, set: u64) -> usize
 }
 
 // The length of the checks of each candidate with its partners.
-fn pairs_length(sets: &[u64], rows: &[u64], p: usize, q: usize, k: u64) -> usize
-    requires { ⌜ (p ≤ q) × (q < 2 ^ 32) ⌝ }
-    requires { ⌜ length (X.pairsText (now sets) (now rows) p q k k) < 2 ^ 63 ⌝ }
-    ensures { λ r. ⌜ r ≡ length (X.pairsText (now (sets .entry)) (now (rows .entry)) p q k k) ⌝ }
+fn rows_length(own: &[u64], rows: &[u64], k: u64) -> usize
+    requires { ⌜ length (X.rowsText (now own) (now rows) k k) < 2 ^ 63 ⌝ }
+    ensures { λ r. ⌜ r ≡ length (X.rowsText (now (own .entry)) (now (rows .entry)) k k) ⌝ }
 {
     let mut o: usize = 0;
     let mut rest = k;
     while rest != 0 {
         let x = sets::first(rest);
         let row = stages::goal(rows, x as usize + 1);
-        let others = stages::partners(sets, p, q, k, row, x);
+        let h = stages::goal(own, x as usize + 1);
+        let others = stages::partners(k, row, h, x);
         o += row_length(x as u8, others);
         rest = sets::without_first(rest);
     }
     o
+}
+
+// The length of the independence checks of the candidates k of the stage p+1 to q.
+fn pairs_length(sets: &[u64], rows: &[u64], p: usize, q: usize, k: u64) -> usize
+    requires { ⌜ (p ≤ q) × (q < 2 ^ 32) ⌝ }
+    requires { ⌜ length (X.pairsText (now sets) (now rows) p q k k) < 2 ^ 63 ⌝ }
+    ensures { λ r. ⌜ r ≡ length (X.pairsText (now (sets .entry)) (now (rows .entry)) p q k k) ⌝ }
+{
+    if k == 0 {
+        return 0;
+    }
+    let mut own = [0u64; 64];
+    stages::own_goals(&mut own, sets, p, q, k);
+    rows_length(&own, rows, k)
 }
 
 // How many of the goals 1 to g have two digits.

@@ -109,10 +109,10 @@ from-cong zero i a b h = refl
 from-cong (suc k) i a b h = ap₂ (λ (t : Bool) (r : List ℕ). cond t (i ∷ r) r) (h i (le-refl i)) (from-cong k (suc i) a b (λ j l. h j (omega arith)))
 
 -- what is left without x
-other : (m x j : ℕ) → (x ≡ j → ⊥) → has (without m (single x)) j ≡ has m j
+pub other : (m x j : ℕ) → (x ≡ j → ⊥) → has (without m (single x)) j ≡ has m j
 other m x j n = has-without m (single x) j ∙ ap (λ (t : Bool). has m j && not t) (has-single x j ∙ ne-eqb x j n) ∙ and-true (has m j)
 
-gone : (m x : ℕ) → has (without m (single x)) x ≡ false
+pub gone : (m x : ℕ) → has (without m (single x)) x ≡ false
 gone m x = has-without m (single x) x ∙ ap (λ (t : Bool). has m x && not t) (has-single x x ∙ eq-eqb x x refl) ∙ and-false (has m x)
 
 from-first : (k i m x : ℕ) → ((j : ℕ) → j < x → has m j ≡ false) → has m x ≡ true → i ≤ x → x < i + k

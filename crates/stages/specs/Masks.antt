@@ -1,10 +1,11 @@
 -- The same by masks: the sets that the code computes, of goals given as a list of masks. proofs/Masks.antt says that they have the members that
 -- specs/Mel.antt names.
-use mathlib.Core.Bool.{_||_, cond}
+use mathlib.Core.Path.{_≡_}
+use mathlib.Core.Bool.{true, _||_, cond}
 use mathlib.Core.List.{List}
-use Prim.Native.Nat.{ℕ, zero, suc, _+_, _-_}
+use Prim.Native.Nat.{ℕ, zero, suc, _+_, _-_, _<_}
 use lib.Dec.{ltb}
-use lib.ListN.{length}
+use lib.ListN.{length, getD}
 use Rattle.arrays.specs.Table.{table}
 use Rattle.sets.specs.Sets.{has, union, meet, without, below}
 use Rattle.stages.specs.Mel.{Clause, goal}
@@ -48,5 +49,16 @@ unfoldable pub candidates : ℕ → ℕ → ℕ → ℕ → ℕ
 candidates once₁ twice₁ met₁ ground = without (without (meet once₁ met₁) twice₁) ground
 
 -- of the candidates k those that stand in a check with x, x the lower: not known independent of x (x's row), not in x's goal, above x
+abbrev pub apart : ℕ → ℕ → ℕ → ℕ → ℕ
+apart k row own x = without (without (without k row) own) (below (x + 1))
+
 unfoldable pub partners : List ℕ → ℕ → ℕ → ℕ → ℕ → ℕ → ℕ
-partners sets p q k row x = without (without (without k row) (goalWith sets p q x)) (below (x + 1))
+partners sets p q k row x = apart k row (goalWith sets p q x) x
+
+-- s stands at each place of a set, and at the others what stood there
+unfoldable pub Noted : List ℕ → ℕ → ℕ → List ℕ → Type 0
+Noted old set s new = (x : ℕ) → x < 64 → getD new x 0 ≡ cond (has set x) s (getD old x 0)
+
+-- for each x of k the set of its goal stands at place x
+unfoldable pub OwnGoals : List ℕ → ℕ → ℕ → ℕ → List ℕ → Type 0
+OwnGoals sets p q k own = (x : ℕ) → x < 64 → has k x ≡ true → getD own x 0 ≡ goalWith sets p q x

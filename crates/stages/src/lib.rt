@@ -1,7 +1,7 @@
 // The stages of the MEL annotation and their checks, by masks over the goals' variable sets. Goals are numbered from 1.
 ghost use mathlib.Core.Path.{_≡_};
 ghost use Prim.Native.Nat.{ℕ, _+_, _<_, _≤_, _^_};
-ghost use lib.ListN.{length};
+ghost use lib.ListN.{length, replicate};
 ghost use Rattle.stages.specs.Mel as W;
 ghost use Rattle.stages.specs.Masks as M;
 
@@ -80,21 +80,31 @@ pub fn counted(sets: &[u64], p: usize, q: usize) -> Seen
     Seen { once: m, twice: t }
 }
 
-// The set of the first of the goals p+1 to q that holds x, empty if none does.
-pub fn goal_with(sets: &[u64], p: usize, q: usize, x: u32) -> u64
-    requires { ⌜ (p ≤ q) × (q < 2 ^ 32) ⌝ }
-    requires { ⌜ x < 64 ⌝ }
-    ensures { λ r. ⌜ r ≡ M.goalWith (now (sets .entry)) p q x ⌝ }
+// Stores s at each place of a set.
+fn note(own: &mut [u64], set: u64, s: u64)
+    requires { ⌜ length (now own) ≡ 64 ⌝ }
+    ensures { λ r. ⌜ M.Noted (now (own .entry)) set s (now (own .exit)) ⌝ }
 {
-    let mut g = p;
-    while g < q {
-        let s = goal(sets, g + 1);
-        if sets::has(s, x) {
-            return s;
-        }
-        g += 1;
+    let mut rest = set;
+    while rest != 0 {
+        let x = sets::first(rest) as usize;
+        own[x] = s;
+        rest = sets::without_first(rest);
     }
-    0
+}
+
+// Stores for each x of k the set of the first of the goals p+1 to q that holds x, and nothing where none does.
+pub fn own_goals(own: &mut [u64], sets: &[u64], p: usize, q: usize, k: u64)
+    requires { ⌜ (p ≤ q) × (q < 2 ^ 32) ⌝ }
+    requires { ⌜ now own ≡ replicate 64 0 ⌝ }
+    ensures { λ r. ⌜ M.OwnGoals (now (sets .entry)) p q k (now (own .exit)) ⌝ }
+{
+    let mut g = q;
+    while p < g {
+        let s = goal(sets, g);
+        g -= 1;
+        note(own, sets::meet(s, k), s);
+    }
 }
 
 // The variables that may stand in an independence check of a stage.
@@ -104,13 +114,11 @@ pub fn candidates(s: Seen, met: u64, ground: u64) -> u64
     sets::without(sets::without(sets::meet(s.once, met), s.twice), ground)
 }
 
-// Those of the candidates k that stand in a check with x, above it.
-pub fn partners(sets: &[u64], p: usize, q: usize, k: u64, row: u64, x: u32) -> u64
-    requires { ⌜ (p ≤ q) × (q < 2 ^ 32) ⌝ }
+// Those of the candidates k that stand in a check with x, above it; row has those known independent of x, own is the set of x's goal.
+pub fn partners(k: u64, row: u64, own: u64, x: u32) -> u64
     requires { ⌜ x < 64 ⌝ }
-    ensures { λ r. ⌜ r ≡ M.partners (now (sets .entry)) p q k row x ⌝ }
+    ensures { λ r. ⌜ r ≡ M.apart k row own x ⌝ }
 {
-    let h = goal_with(sets, p, q, x);
     let b = sets::below(x + 1);
-    sets::without(sets::without(sets::without(k, row), h), b)
+    sets::without(sets::without(sets::without(k, row), own), b)
 }

@@ -1,93 +1,43 @@
-use Prim.Native.Nat.{ℕ, _<_, _^_}
-use mathlib.Core.Path.{_≡_, ap}
-use mathlib.Core.List.{_++_}
+use mathlib.Core.Path.{_≡_, refl, sym, ap, _∙_}
 use native.Mathlib.Omega.{arith}
 use denote.Ref.{now}
-use lib.ListN.{length, length-append}
-use Rattle.sets.specs.Sets.{first, without, single, members}
-use Rattle.sets.proofs.Members.{first-in, fewer}
-use Rattle.text.proofs.Laws.{Left, start, onward, done, left-kept}
+use lib.ListN.{length}
 use Rattle.mel.specs.Texts as X
-use Rattle.mel.proofs.Lists.{pairs-step, pairs-end}
+use Rattle.mel.proofs.Lists.{pairs-none, own-rows}
+use Rattle.text.proofs.Laws.{none, recast}
 use borrow.Author.Needs.{needs}
 use Rattle.mel.proofs.put_pairs.Statement.{statement}
 use Rattle.mel.proofs.put_pairs.Tie as tie
 
-abbrev Inv-loop : tie.InvT-loop
-Inv-loop out₀ at sets rows p q k o₀ rest₀ out o rest = (rest < 2 ^ 64) × Left (X.pairsText sets rows p q k rest) (X.pairsText sets rows p q k k) at out₀ o out
+returns : tie.Need-returns
+returns c = recast (pairs-none _ _ _ _ _ (c .if1 .taken)) (none _ _)
 
-abbrev μ-loop : tie.MeasureT-loop
-μ-loop out₀ at sets rows p q k o₀ rest₀ out o rest = length (members 64 rest)
+slice-aggregate-own-goals : tie.Need-slice-aggregate-own-goals
+slice-aggregate-own-goals c = search needs
 
-small : (c : tie.After-first Inv-loop μ-loop) → c .first .result < 64
-small c = rw (c .first .ensures) (first-in 64 _ (c .before .before .loop .inv .0) (c .before .loop-test .taken))
+own-goals-requires : tie.Need-own-goals-requires
+own-goals-requires c κs = ((omega arith, omega arith), refl)
 
--- what a turn writes, and what it leaves
-turn : (c : tie.After-partners Inv-loop μ-loop) →
-    let l = c .before .before .before .before .loop in
-    let a = c .before .before .before .before .before .before .before .before .args in
-    X.pairsText (now (a .sets)) (now (a .rows)) (a .p) (a .q) (a .k) (l .rest)
-    ≡ X.rowText (c .before .before .first .result) (c .partners .result)
-    ++ X.pairsText (now (a .sets)) (now (a .rows)) (a .p) (a .q) (a .k) (without (l .rest) (single (first 64 (l .rest))))
-turn c =
-    rw (c .partners .ensures, c .before .goal .ensures, c .before .before .first .ensures)
-    (pairs-step _ _ _ _ _ _ (c .before .before .before .before .loop .inv .0) (c .before .before .before .loop-test .taken))
+slice-aggregate-put-rows : tie.Need-slice-aggregate-put-rows
+slice-aggregate-put-rows c = search needs
 
-loop-holds : tie.Need-loop-holds Inv-loop μ-loop
-loop-holds c = (search needs, start _ _ _)
+put-rows-requires : tie.Need-put-rows-requires
+put-rows-requires c κs = let a = c .before .before .before .before .before .before .before .before .before .args in omega (arith, ap length (own-rows (now (a .sets)) (now (a .rows)) (a .p) (a .q) (a .k) _ (c .before .before .before .own-goals .ensures)))
 
-first-requires : tie.Need-first-requires Inv-loop μ-loop
-first-requires c κs = tt
+same-length : tie.Need-same-length
+same-length c = search needs
 
-cast-goal : tie.Need-cast-goal Inv-loop μ-loop
-cast-goal c = omega (arith, small c)
-
-add-goal : tie.Need-add-goal Inv-loop μ-loop
-add-goal c = omega (arith, small c)
-
-goal-requires : tie.Need-goal-requires Inv-loop μ-loop
-goal-requires c κs = omega arith
-
-partners-requires : tie.Need-partners-requires Inv-loop μ-loop
-partners-requires c κs = ((omega arith, omega arith), small (c .before))
-
-cast-put-row : tie.Need-cast-put-row Inv-loop μ-loop
-cast-put-row c = omega (arith, small (c .before .before .before))
-
-put-row-requires : tie.Need-put-row-requires Inv-loop μ-loop
-put-row-requires c κs = (omega (arith, small (c .before .before .before)), omega (arith, left-kept (c .before .before .before .before .before .loop .inv .1), simp length-append at (ap length (turn (c .before)))))
-
-without-first-requires : tie.Need-without-first-requires Inv-loop μ-loop
-without-first-requires c κs = omega (arith, c .before .before .before .before .before .before .before .loop-test .taken)
-
-loop-less : tie.Need-loop-less Inv-loop μ-loop
-loop-less c = rw (c .without-first .ensures) (fewer 64 _ (c .before .before .before .before .before .before .before .before .before .loop .inv .0) (c .before .before .before .before .before .before .before .before .loop-test .taken))
-
-loop-again : tie.Need-loop-again Inv-loop μ-loop
-loop-again c = (c .without-first .ok, rw (c .without-first .ensures) (onward (c .before .before .before .before .before .before .before .before .before .loop .inv .1) (c .before .before .before .put-row .ensures) (turn (c .before .before .before .before .before))))
-
-same-length : tie.Need-same-length Inv-loop μ-loop
-same-length c = left-kept (c .before .loop .inv .1)
-
-returns : tie.Need-returns Inv-loop μ-loop
-returns c = done (c .before .loop .inv .1) (pairs-end _ _ _ _ _ _ (c .loop-test .left))
+returns-2 : tie.Need-returns-2
+returns-2 c = recast (own-rows _ _ _ _ _ _ (c .before .before .before .before .before .before .own-goals .ensures)) (c .before .before .put-rows .ensures)
 
 pub put-pairs-spec : {M : Type 1} → statement M
 put-pairs-spec =
     tie.close
     (tie.spec
-    Inv-loop
-    μ-loop
-    loop-holds
-    first-requires
-    cast-goal
-    add-goal
-    goal-requires
-    partners-requires
-    cast-put-row
-    put-row-requires
-    without-first-requires
-    loop-less
-    loop-again
+    returns
+    slice-aggregate-own-goals
+    own-goals-requires
+    slice-aggregate-put-rows
+    put-rows-requires
     same-length
-    returns)
+    returns-2)
