@@ -8,15 +8,11 @@ use Rattle.reading.specs.declared.Reading.{Reading}
 use Rattle.reading.specs.declared.Reading.the-variants.{Fine}
 use Rattle.reading.specs.Reading as R
 use Rattle.reading.specs.Fine.{fine}
-use Rattle.decoding.specs.Clause.{goalSets, pairRows, Holding}
+use Rattle.decoding.specs.Clause.{goalSets, Holding}
 
--- the arrays hold the goals' variable sets and the rows of the listed pairs
-abbrev pub Stored : List ℕ → List ℕ → List ℕ → Type 0
-Stored b goals rows = (goals ≡ goalSets b) × (rows ≡ pairRows b)
-
--- where nothing is refused, they do
+-- where nothing is refused, the arrays hold the facts
 abbrev pub Decoded : List ℕ → Reading → List ℕ → List ℕ → Type 0
-Decoded b r goals rows = r ≡ Fine → Stored b goals rows
+Decoded b r goals rows = r ≡ Fine → Holding b goals rows
 
 -- whether nothing that follows the header is refused
 unfoldable pub restFine : List ℕ → Bool

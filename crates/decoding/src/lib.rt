@@ -64,7 +64,7 @@ fn take_pairs(b: &[u8], from: usize, v: u32, p: usize, rows: &mut [u64; 64]) -> 
 fn rest(b: &[u8], goals: &mut [u64; 32], rows: &mut [u64; 64]) -> bool
     requires { ⌜ (F.goalCount (now b) ≤ 32) × (F.varCount (now b) ≤ 64) × (now goals ≡ replicate 32 0) × (now rows ≡ replicate 64 0) ⌝ }
     ensures { λ r. ⌜ r ≡ D.restFine (now (b .entry)) ⌝ }
-    ensures { λ r. ⌜ (r ≡ true → D.Stored (now (b .entry)) (now (goals .exit)) (now (rows .exit))) ⌝ }
+    ensures { λ r. ⌜ (r ≡ true → C.Holding (now (b .entry)) (now (goals .exit)) (now (rows .exit))) ⌝ }
 {
     let n = fields::size_of(fields::byte(b, 5));
     let v = fields::small(fields::byte(b, 6));
