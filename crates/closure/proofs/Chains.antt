@@ -1,6 +1,6 @@
--- The closure from the last goal down. Callers may use `rows-within`, `rows-rise`, `closed-above` and `closing-of`.
+-- The closure from the last goal down. Callers may use `rows-rise` and `closing-of`.
 use mathlib.Core.Path.{_≡_, sym, ap, _∙_, subst}
-use mathlib.Core.Bool.{Bool, true, false, _&&_, _||_, false≢true}
+use mathlib.Core.Bool.{Bool, true, _&&_, _||_, false≢true}
 use mathlib.Core.List.{List}
 use mathlib.Core.Logic.{_⊎_, inl, inr, ⊎-elim, dite}
 use Prim.Native.Nat.{ℕ, zero, suc, _-_, _^_, _≤_, _<_}
@@ -20,14 +20,10 @@ use Rattle.sets.proofs.Builder.{members-lt, has-setOf, has-setOf-in}
 use Rattle.expression.specs.Expr.{Goals}
 use Rattle.expression.specs.Closure.{Chain, wait, link, closed}
 use Rattle.expression.proofs.Closure.{closed-chain, chain-closed, closed-agree}
-use Rattle.graph.specs.Graph.{ahead, rowsOf, graphOf}
+use Rattle.graph.specs.Graph.{ahead, rowsOf, graphOf, Within}
 use Rattle.graph.proofs.Rows.{rows-length, rows-say, rows-ext, rows-cong, row-lt, row-past}
-use Rattle.closure.specs.Closing.{Within, Rising, Closed, closing, reached}
+use Rattle.closure.specs.Closing.{Rising, Closed, closing, reached}
 use Rattle.closure.proofs.Visits.{leads}
-
--- the rows of a relation are within
-pub rows-within : (n : ℕ) (R : ℕ → ℕ → Bool) → n ≤ 32 → Within n (rowsOf n R)
-rows-within n R h = rows-cong n R (ahead (rowsOf n R)) h (λ i j a b c d. sym (rows-say n R i j h a b c d))
 
 -- what a row of a relation has
 row-out : (n : ℕ) (R : ℕ → ℕ → Bool) (i j : ℕ) → n ≤ 32 → has (getD (rowsOf n R) i 0) j ≡ true → (i < n) × (j < n) × (R (suc i) (suc j) ≡ true)
@@ -192,27 +188,6 @@ module _ (n : ℕ) (rows : List ℕ) (hn : n ≤ 32) (ok : Within n rows) (up : 
   above-turn (suc k) v l z h e r =
       let one : k ≡ suc k - 1 = omega arith in
       ap (set l (suc k - 1)) r ∙ subst (λ (x : ℕ). set l x (reached l (getD rows x 0)) ≡ rowsOf n (above n rows x)) one (above-more k h l e)
-
--- of a rising relation, the chains from a goal above m use what begins above m alone
-pub closed-above : (W : ℕ → ℕ → Bool) (n m i j : ℕ) → ((x y : ℕ) → W x y ≡ true → x < y) → m < i
-    → closed (λ x y. ltb m x && W x y) n i j ≡ closed W n i j
-closed-above W n m i j up l =
-    iff (closed late n i j) (closed W n i j) (λ t. chain-closed W n i j (there i j (closed-chain late n n i j (omega arith) t)))
-    (λ t. chain-closed late n i j (back i j l (closed-chain W n n i j (omega arith) t) .0))
-  where
-    late : ℕ → ℕ → Bool
-    late = λ x y. ltb m x && W x y
-
-    there : (i j : ℕ) → Chain late n i j → Chain W n i j
-    there i j (wait t) = wait (and-r (ltb m i) (W i j) t)
-    there i k (link {j = j} g a c) = link g (there i j a) (there j k c)
-
-    back : (i j : ℕ) → m < i → Chain W n i j → Chain late n i j × (i < j)
-    back i j l (wait t) = (wait (and-i (ltb m i) (W i j) (lt-ltb m i l) t), up i j t)
-    back i k l (link {j = j} g a c) =
-        let p = back i j l a in
-        let q = back j k (omega (arith, p .1)) c in
-        (link g (p .0) (q .0), omega (arith, p .1, q .1))
 
 -- the closure of the graph of a relation is the graph of its chains
 pub closing-of : (n : ℕ) (W : ℕ → ℕ → Bool) → n ≤ 32 → closing (graphOf n W) ≡ graphOf n (closed W n)

@@ -10,11 +10,7 @@ use Rattle.expression.specs.Closure.{closed}
 use Rattle.graph.specs.Graph.{ahead, rowsOf, graphOf}
 use Rattle.graph.specs.declared.Graph.{Graph}
 
--- the rows have nothing but pairs of the goals 1 to n
-abbrev pub Within : ℕ → List ℕ → Type 0
-Within n rows = rows ≡ rowsOf n (ahead rows)
-
--- they lead from lower to higher numbers
+-- the rows lead from lower to higher numbers
 abbrev pub Rising : List ℕ → Type 0
 Rising rows = (i j : ℕ) → ahead rows i j ≡ true → i < j
 

@@ -2,6 +2,7 @@
 ghost use mathlib.Core.Path.{_≡_};
 ghost use Prim.Native.Nat.{_<_, _≤_};
 ghost use denote.Ref.{now};
+ghost use Rattle.graph.specs.Graph.{Within};
 ghost use Rattle.closure.specs.Closing as C;
 use graph::Graph;
 
@@ -23,7 +24,7 @@ fn reached(set: u32, rows: &[u32; 32]) -> u32
 
 // The graph of the chains of g, whose edges lead from lower to higher numbers: from the last goal down, each row is closed by the rows behind it.
 pub fn close(g: Graph) -> Graph
-    requires { ⌜ (g .n ≤ 32) × C.Within (g .n) (g .rows) × C.Rising (g .rows) ⌝ }
+    requires { ⌜ (g .n ≤ 32) × Within (g .n) (g .rows) × C.Rising (g .rows) ⌝ }
     ensures { λ r. ⌜ r ≡ C.closing g ⌝ }
 {
     let mut closed = Graph::empty(g.n);

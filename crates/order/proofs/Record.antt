@@ -11,13 +11,14 @@ use Rattle.sets.specs.Sets.{has, setOf}
 use Rattle.sets.proofs.Builder.{setOf-lt, setOf-ext, has-setOf-in}
 use Rattle.arrays.specs.Table.{table}
 use Rattle.arrays.proofs.Table.{table-at, table-cong}
-use Rattle.graph.specs.Graph.{goalsOf, rowsOf}
+use Rattle.graph.specs.Graph.{goalsOf, rowsOf, Within}
+use Rattle.graph.proofs.Rows.{rows-within}
 use Rattle.graph.specs.declared.Graph.{Graph}
 use Rattle.judge.specs.ByRows.{waitsBy}
 use Rattle.judge.proofs.Listed.{waits-listed}
 use Rattle.decoding.specs.Clause.{goalSets, pairRows, Holding}
-use Rattle.closure.specs.Closing.{Within, Rising, closing}
-use Rattle.closure.proofs.Chains.{rows-within, rows-rise, closing-of}
+use Rattle.closure.specs.Closing.{Rising, closing}
+use Rattle.closure.proofs.Chains.{rows-rise, closing-of}
 use Rattle.fields.specs.Facts.{groundAt, freeAt}
 use Rattle.record.specs.Fields.{goalCount, groundSet, goalSet, listed}
 use Rattle.order.specs.Order.{earlier, waits, before, order}
