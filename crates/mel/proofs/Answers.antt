@@ -1,5 +1,5 @@
 -- The answers of the operation.
-use mathlib.Core.Path.{_≡_, sym, ap}
+use mathlib.Core.Path.{_≡_, sym, ap, _∙_}
 use mathlib.Core.List.{List}
 use Prim.Native.Nat.{ℕ, _≤_, _<_}
 use native.Mathlib.Omega.{arith}
@@ -10,7 +10,7 @@ use Rattle.refusal.specs.declared.Refusal.{Refusal}
 use Rattle.reading.specs.Reading.{reading}
 use Rattle.text.specs.Lent.{stored}
 use Rattle.text.proofs.Lent.{fits-le, fits-lt}
-use Rattle.mel.specs.Annotation.{refused, done, values, answerTo, answer, after, mel, melAnswer, melBuffer}
+use Rattle.mel.specs.Annotation.{Values, refused, done, values, answerTo, answer, after, mel, melAnswer, melBuffer}
 use Rattle.mel.specs.declared.Written.the-variants as W
 
 -- the buffer is too short
@@ -40,3 +40,8 @@ module _ (b buf : List ℕ) where
   pub fine-buffer : reading b ≡ Fine → stored (mel b) buf ≡ melBuffer b buf
   unfolding melBuffer after
   fine-buffer e = sym (ap (λ (s : Reading). after s (mel b) buf) e)
+
+  -- what was answered and stored for the record's text
+  pub fine-text : {v : Values} {o t : List ℕ} → (v ≡ answerTo t buf) × (o ≡ stored t buf) → t ≡ mel b → reading b ≡ Fine
+      → (v ≡ melAnswer b buf) × (o ≡ melBuffer b buf)
+  fine-text (v, o) t e = (v ∙ ap (λ (l : List ℕ). answerTo l buf) t ∙ fine-values e, o ∙ ap (λ (l : List ℕ). stored l buf) t ∙ fine-buffer e)

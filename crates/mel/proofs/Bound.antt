@@ -19,9 +19,11 @@ use Rattle.stages.specs.Masks.{given, once, twice, goalWith, candidates, partne
 use Rattle.stages.proofs.Words.{occurs-out, occurs-in, shared-out}
 use Rattle.stages.proofs.Masks.{has-once, has-twice}
 use Rattle.stages.proofs.Stages.{by-stages, start-falls}
-use Rattle.mel.specs.Texts.{groundSet, pairSet, pairsOf, checksText, stageText, stagesText, melText}
-use Rattle.mel.proofs.Whole.{checks-masks, stages-one, stages-more, stage-parts, stage-one}
-use Rattle.mel.proofs.Length.{same-or, checks-length, goals-bound, arrow-length, none-text, mel-text}
+use Rattle.checks.specs.Texts.{pairsOf}
+use Rattle.stage_texts.specs.Texts.{groundSet, pairSet, checksText, stageText, stagesText, melText}
+use Rattle.stage_texts.proofs.Whole.{checks-masks, stages-one, stages-more, stage-parts, stage-one}
+use Rattle.stage_texts.proofs.Room.{same-or}
+use Rattle.mel.proofs.Length.{checks-length, goals-bound, arrow-length, none-text, mel-text}
 
 -- a set has no more members than one that holds them all, and no more than the width
 members-le : (w i a b : ℕ) → ((j : ℕ) → has a j ≡ true → has b j ≡ true) → length (membersFrom w i a) ≤ length (membersFrom w i b)
@@ -55,6 +57,13 @@ partners-in : (sets : List ℕ) (p q k row x y : ℕ) → has (partners sets p q
 unfolding partners
 partners-in sets p q k row x y e =
     left-of k row y (left-of (without k row) (goalWith sets p q x) y (left-of (without (without k row) (goalWith sets p q x)) (below (x + 1)) y e))
+
+-- the numbers of the bound fit a machine's number
+pub square : (v : ℕ) → v ≤ 64 → v * v ≤ 64 * v
+square v h = mul-le-mul-right v h
+
+pub product : (n c : ℕ) → n ≤ 32 → n * c ≤ 32 * c
+product n c h = mul-le-mul-right c h
 
 module _ (head : ℕ) (sets grounds rows : List ℕ) (n : ℕ) where
   -- the variables of the goals, and how many they are
@@ -120,7 +129,7 @@ module _ (head : ℕ) (sets grounds rows : List ℕ) (n : ℕ) where
   stage-most p q h =
       ⊎-elim
       (λ e. omega (arith, ap length (stage-one head sets grounds rows p q e), decimal-length q))
-      (λ d. omega (arith, simp length-append at (ap length (stage-parts head sets grounds rows p q d)), checks-most p q h, goals-bound head sets grounds rows p q, arrow-length (some (checksText head sets grounds rows false p q))))
+      (λ d. omega (arith, simp length-append at (ap length (stage-parts head sets grounds rows p q d)), checks-most p q h, goals-bound p q, arrow-length (some (checksText head sets grounds rows false p q))))
       (same-or q (p + 1))
 
   stages-most : (q : ℕ) → q ≤ n → length (stagesText head sets grounds rows q) ≤ q * (15 * (v + v * v)) + 8 * q
@@ -134,16 +143,15 @@ module _ (head : ℕ) (sets grounds rows : List ℕ) (n : ℕ) where
       (λ d. omega (arith, f, ih (omega (arith, f, h)), simp length-append at (ap length (stages-more head sets grounds rows q l d)), stage-most p q h, suc-mul p c, mul-le-mul-right c f))
       (same-or p 0))
 
+  -- a place in the text fits a machine's number
+  pub text-fits : n ≤ 32 → length (stagesText head sets grounds rows n) < 2 ^ 63
+  text-fits h =
+      let l = members-width 64 0 vars in
+      omega (arith, stages-most n (omega arith), square v l, product n (15 * (v + v * v)) h)
+
 -- the whole text, with the variables counted by the code
 pub text-most : (head : ℕ) (sets grounds rows : List ℕ) (m : ℕ) → m < 2 ^ 64 → m ≡ once sets 0 (length sets)
     → length (melText head sets grounds rows) ≤ length sets * (15 * (count m + count m * count m)) + 8 * length sets
 text-most head sets grounds rows m h e =
     let c : count m ≡ length (members 64 (once sets 0 (length sets))) = count-members 64 m h ∙ ap (λ (k : ℕ). length (members 64 k)) e in
     rw c (omega (arith, ap length (mel-text head sets grounds rows), stages-most head sets grounds rows (length sets) (length sets) (omega arith)))
-
--- the numbers of the bound fit a machine's number
-pub square : (v : ℕ) → v ≤ 64 → v * v ≤ 64 * v
-square v h = mul-le-mul-right v h
-
-pub product : (n c : ℕ) → n ≤ 32 → n * c ≤ 32 * c
-product n c h = mul-le-mul-right c h

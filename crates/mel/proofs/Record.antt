@@ -16,10 +16,10 @@ use Rattle.sets.proofs.Builder.{has-setOf-in}
 use Rattle.judge.specs.Independence.{knownIndependent}
 use Rattle.decoding.specs.Clause.{goalSets, pairRows, Holding}
 use Rattle.fields.specs.Fields.{goalCount, headSet, groundSet, goalSet, listed}
-use Rattle.stages.specs.Mel.{Clause, goal, goalsFrom}
+use Rattle.stages.specs.Mel.{goal, goalsFrom}
 use Rattle.stages.specs.Masks.{given}
 use Rattle.stages.proofs.Same.{mel-same}
-use Rattle.mel.specs.Texts.{melText}
+use Rattle.stage_texts.specs.Texts.{melText}
 use Rattle.mel.specs.Annotation.{clauseOf, mel}
 
 -- the first n places of a table that is full up to there

@@ -5,31 +5,24 @@ use Rattle.mel.proofs.Bound.{square, product}
 use Rattle.mel.proofs.most.Statement.{statement}
 use Rattle.mel.proofs.most.Tie as tie
 
--- src/lib.rt:225:23
 mul-c : tie.Need-mul-c
 mul-c c = omega (arith, square (c .args .v) (omega arith))
 
--- src/lib.rt:225:19
 add-c : tie.Need-add-c
 add-c c = omega (arith, square (c .args .v) (omega arith))
 
--- src/lib.rt:225:13
 mul-c-2 : tie.Need-mul-c-2
 mul-c-2 c = omega (arith, square (c .args .v) (omega arith))
 
--- src/lib.rt:226:5
 mul-result : tie.Need-mul-result
 mul-result c = omega (arith, square (c .args .v) (omega arith), product (c .args .n) (15 * (c .args .v + c .args .v * c .args .v)) (omega arith))
 
--- src/lib.rt:226:13
 mul-result-2 : tie.Need-mul-result-2
 mul-result-2 c = search needs
 
--- src/lib.rt:226:5
 add-result : tie.Need-add-result
 add-result c = omega (arith, square (c .args .v) (omega arith), product (c .args .n) (15 * (c .args .v + c .args .v * c .args .v)) (omega arith))
 
--- src/lib.rt:220:1
 returns : tie.Need-returns
 returns c = search needs
 

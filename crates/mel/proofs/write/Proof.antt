@@ -1,4 +1,4 @@
-use mathlib.Core.Path.{_≡_, ap, _∙_, sym}
+use mathlib.Core.Path.{_≡_, _∙_, sym}
 use mathlib.Core.List.{List}
 use Prim.Native.Nat.{ℕ}
 use native.Mathlib.Omega.{arith}
@@ -8,12 +8,10 @@ use borrow.Author.Needs.{needs}
 use Rattle.reading.specs.declared.Reading.the-variants.{Fine}
 use Rattle.fields.specs.Fields.{goalCount}
 use Rattle.reading.specs.Reading.{reading}
-use Rattle.text.specs.Lent.{stored}
 use Rattle.decoding.specs.Clause.{goalSets}
 use Rattle.record.proofs.WellFormed.{fine-well-formed}
-use Rattle.mel.specs.Annotation.{answerTo}
 use Rattle.mel.proofs.Record.{facts-text, facts-length, facts-room, facts-rows}
-use Rattle.mel.proofs.Answers.{refused-values, refused-buffer, fine-values, fine-buffer}
+use Rattle.mel.proofs.Answers.{refused-values, refused-buffer, fine-text}
 use Rattle.mel.proofs.write.Statement.{statement}
 use Rattle.mel.proofs.write.Tie as tie
 
@@ -89,14 +87,10 @@ returns-2 c =
     let n = c .before .before .before .before .before .before .before .before .before in
     let t = n .before .before in
     let held = t .before .before .read .ensures .1 (t .enum-told .given .1) in
-    let out = now (c .before .before .before .before .before .before .before .before .before .before .before .before .before .before .before .before .before .before .args .out) in
     let head = c .before .before .before .before .before .before .before .before .set-at .ensures in
     let ground = c .before .before .before .before .before .before .before .set-at2 .ensures in
     let text = facts-text _ (fine-well-formed _ (fine t) .goals-to) _ _ _ _ _ (count n) head ground held in
-    let wrote = c .before .before .write-clause .ensures in (
-      wrote .0 ∙ ap (λ (l : List ℕ). answerTo l out) text ∙ fine-values _ _ (fine t),
-      wrote .1 ∙ ap (λ (l : List ℕ). stored l out) text ∙ fine-buffer _ _ (fine t),
-    )
+    fine-text _ _ (c .before .before .write-clause .ensures) text (fine t)
 
 pub write-spec : {M : Type 1} → statement M
 write-spec =

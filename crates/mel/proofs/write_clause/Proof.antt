@@ -9,9 +9,9 @@ use Rattle.text.proofs.Lent.{stores, keeps}
 use Rattle.stages.specs.Mel as W
 use Rattle.stages.specs.Masks as M
 use Rattle.stages.proofs.Masks.{before-next}
-use Rattle.mel.specs.Texts as X
-use Rattle.mel.proofs.Length.{mel-text, text-fits}
-use Rattle.mel.proofs.Bound.{count-width, text-most}
+use Rattle.stage_texts.specs.Texts as X
+use Rattle.mel.proofs.Length.{mel-text}
+use Rattle.mel.proofs.Bound.{count-width, text-fits, text-most}
 use Rattle.mel.proofs.Answers.{too-short, accepted}
 use borrow.Author.Needs.{needs}
 use Rattle.mel.proofs.write_clause.Statement.{statement}

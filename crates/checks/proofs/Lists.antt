@@ -1,0 +1,146 @@
+-- Laws of the texts of a stage's checks and goals.
+use mathlib.Core.Path.{_≡_, refl, sym, ap, ap₂, _∙_}
+use mathlib.Core.Logic.{inl, inr}
+use mathlib.Core.Bool.{Bool, true, false}
+use mathlib.Core.List.{List, [], _∷_, _++_, map, append-assoc}
+use Prim.Native.Nat.{ℕ, suc, _+_, _-_, _≤_, _<_, _^_, suc-le-suc}
+use native.Mathlib.Nat.{le-refl}
+use native.Mathlib.Numerals.{add-one}
+use native.Mathlib.Omega.{arith}
+use lib.Dec.{ltb}
+use lib.ListN.{length, getD, length-append}
+use borrow.Author.Tests.{lt-ltb, le-ltb}
+use Rattle.sets.specs.Sets.{without, single, first, members}
+use Rattle.sets.proofs.Members.{In, in-members, members-step, members-none}
+use Rattle.text.specs.Text.{decimal, joinFrom, only}
+use Rattle.text.proofs.Laws.{join-step, join-none}
+use Rattle.stages.specs.Mel.{Check, Ground, Indep, goal, goalsFrom, checkText, checksFrom, arrowIf, goalsText}
+use Rattle.stages.specs.Masks.{goalWith, apart, partners, OwnGoals}
+use Rattle.checks.specs.Texts.{item, groundsText, rowText, pairsOf, pairsText, rowsOf, rowsText}
+
+-- ---- checks, one after the other
+
+pub checks-step : (more : Bool) (c : Check) (l : List Check) → checksFrom more (c ∷ l) ≡ only more 44 ++ checkText c ++ checksFrom true l
+unfolding checksFrom
+checks-step more c l = join-step more 44 (checkText c) (map checkText l)
+
+pub checks-none : (more : Bool) → checksFrom more [] ≡ []
+unfolding checksFrom
+checks-none more = join-none more 44
+
+-- a check with the comma before it
+pub item-step : (c : Check) (l : List Check) → checksFrom true (c ∷ l) ≡ item c ++ checksFrom true l
+unfolding item only
+item-step c l = checks-step true c l
+
+pub checks-append : (a b : List Check) → checksFrom true (a ++ b) ≡ checksFrom true a ++ checksFrom true b
+checks-append [] b = rw (checks-none true)
+checks-append (c ∷ a) b =
+    item-step c (a ++ b)
+    ∙ ap (λ (t : List ℕ). item c ++ t) (checks-append a b)
+    ∙ sym (append-assoc (item c) (checksFrom true a) (checksFrom true b))
+    ∙ ap (λ (t : List ℕ). t ++ checksFrom true b) (sym (item-step c a))
+
+-- ---- the steps of the loops
+
+next-place : (l : List ℕ) (x : ℕ) → goal l (x + 1) ≡ getD l x 0
+unfolding goal
+next-place l x = let i : x + 1 - 1 ≡ x = omega arith in rw i
+
+pub grounds-step : (rest : ℕ) → rest < 2 ^ 64 → (rest ≡ 0 → ⊥)
+    → groundsText rest ≡ item (Ground (first 64 rest)) ++ groundsText (without rest (single (first 64 rest)))
+unfolding groundsText
+grounds-step rest h n =
+    ap (λ (l : List ℕ). checksFrom true (map Ground l)) (members-step 64 rest h n)
+    ∙ item-step (Ground (first 64 rest)) (map Ground (members 64 (without rest (single (first 64 rest)))))
+
+pub grounds-end : (rest : ℕ) → rest ≡ 0 → groundsText rest ≡ []
+unfolding groundsText
+grounds-end rest e = rw (e, members-none 64) (checks-none true)
+
+pub row-step : (x rest : ℕ) → rest < 2 ^ 64 → (rest ≡ 0 → ⊥)
+    → rowText x rest ≡ item (Indep x (first 64 rest)) ++ rowText x (without rest (single (first 64 rest)))
+unfolding rowText
+row-step x rest h n =
+    ap (λ (l : List ℕ). checksFrom true (map (Indep x) l)) (members-step 64 rest h n)
+    ∙ item-step (Indep x (first 64 rest)) (map (Indep x) (members 64 (without rest (single (first 64 rest)))))
+
+pub row-end : (x rest : ℕ) → rest ≡ 0 → rowText x rest ≡ []
+unfolding rowText
+row-end x rest e = rw (e, members-none 64) (checks-none true)
+
+module _ (own rows : List ℕ) (k : ℕ) where
+  pub rows-step : (rest : ℕ) → rest < 2 ^ 64 → (rest ≡ 0 → ⊥) →
+      let x = first 64 rest in
+      rowsText own rows k rest ≡ rowText x (apart k (goal rows (x + 1)) (goal own (x + 1)) x) ++ rowsText own rows k (without rest (single x))
+  unfolding rowsText rowText rowsOf
+  rows-step rest h n =
+      let x = first 64 rest in
+      ap (λ (l : List ℕ). checksFrom true (rowsOf own rows k l)) (members-step 64 rest h n)
+      ∙ checks-append (map (Indep x) (members 64 (apart k (goal rows (x + 1)) (goal own (x + 1)) x))) (rowsOf own rows k (members 64 (without rest (single x))))
+
+  pub rows-end : (rest : ℕ) → rest ≡ 0 → rowsText own rows k rest ≡ []
+  unfolding rowsText rowsOf
+  rows-end rest e = rw (e, members-none 64) (checks-none true)
+
+module _ (sets rows : List ℕ) (p q k : ℕ) where
+  pub pairs-none : k ≡ 0 → [] ≡ pairsText sets rows p q k k
+  unfolding pairsText pairsOf
+  pairs-none e = sym (rw (e, members-none 64) (checks-none true))
+
+  -- the sets of the candidates' goals, found once
+  same-rows : (own l : List ℕ) → ((x : ℕ) → In x l → goal own (x + 1) ≡ goalWith sets p q x) → rowsOf own rows k l ≡ pairsOf sets rows p q k l
+  unfolding rowsOf pairsOf partners
+  same-rows own [] h = refl
+  same-rows own (x ∷ l) h =
+      ap₂ (λ (a : ℕ) (b : List Check). map (Indep x) (members 64 (apart k (goal rows (x + 1)) a x)) ++ b) (h x (inl refl)) (same-rows own l (λ y i. h y (inr i)))
+
+  pub own-rows : (own : List ℕ) → OwnGoals sets p q k own → rowsText own rows k k ≡ pairsText sets rows p q k k
+  unfolding rowsText pairsText OwnGoals
+  own-rows own h =
+      ap (checksFrom true) (same-rows own (members 64 k) (λ x i.
+      let m = in-members 64 0 k x i in
+      next-place own x ∙ h x (omega (arith, m .1)) (m .2)))
+
+-- ---- the parts of a check, as the code writes them
+
+pub ground-parts : (x : ℕ) → (44 ∷ 103 ∷ 114 ∷ 111 ∷ 117 ∷ 110 ∷ 100 ∷ 40 ∷ 118 ∷ []) ++ decimal x ++ (41 ∷ []) ≡ item (Ground x)
+unfolding item checkText
+ground-parts x = refl
+
+pub ground-length : (x : ℕ) → length (item (Ground x)) ≡ 10 + length (decimal x)
+ground-length x = omega (arith, simp length-append at (ap length (ground-parts x)))
+
+pub indep-parts : (a b : ℕ) → (44 ∷ 105 ∷ 110 ∷ 100 ∷ 101 ∷ 112 ∷ 40 ∷ 118 ∷ []) ++ decimal a ++ (44 ∷ 118 ∷ []) ++ decimal b ++ (41 ∷ []) ≡ item (Indep a b)
+unfolding item checkText
+indep-parts a b = refl
+
+pub indep-length : (a b : ℕ) → length (item (Indep a b)) ≡ 11 + length (decimal a) + length (decimal b)
+indep-length a b = omega (arith, simp length-append at (ap length (indep-parts a b)))
+
+pub arrow-on : (on : Bool) → on ≡ true → 61 ∷ 62 ∷ [] ≡ arrowIf on
+unfolding arrowIf
+arrow-on on h = rw h
+
+pub arrow-off : (on : Bool) → on ≡ false → [] ≡ arrowIf on
+unfolding arrowIf
+arrow-off on h = rw h
+
+-- ---- the goals of a stage; what is left of them after goal g
+
+pub goalsLeft : ℕ → ℕ → ℕ → List ℕ
+goalsLeft p g q = joinFrom (ltb p g) 38 (map decimal (goalsFrom (q - g) g))
+
+pub goals-whole : (p q : ℕ) → goalsText p q ≡ goalsLeft p p q
+unfolding goalsText goalsLeft
+goals-whole p q = rw (le-ltb p p (le-refl p))
+
+pub goals-step : (p g q : ℕ) → p ≤ g → g < q → goalsLeft p g q ≡ only (ltb p g) 38 ++ decimal (g + 1) ++ goalsLeft p (g + 1) q
+unfolding goalsLeft goalsFrom
+goals-step p g q h l =
+    let e : q - g ≡ suc (q - (g + 1)) = omega arith in
+    rw (e, add-one g, lt-ltb p (suc g) (suc-le-suc h)) (join-step (ltb p g) 38 (decimal (suc g)) (map decimal (goalsFrom (q - suc g) (suc g))))
+
+pub goals-end : (p g q : ℕ) → q ≤ g → goalsLeft p g q ≡ []
+unfolding goalsLeft goalsFrom
+goals-end p g q h = let e : q - g ≡ 0 = omega arith in rw e (join-none (ltb p g) 38)

@@ -1,0 +1,104 @@
+use Prim.Native.Nat.{_+_, _<_, _^_}
+use mathlib.Core.Path.{_≡_, ap}
+use mathlib.Core.List.{_++_}
+use native.Mathlib.Omega.{arith}
+use denote.Ref.{now}
+use lib.ListN.{length, length-append}
+use Rattle.sets.specs.Sets.{first, without, single, members}
+use Rattle.sets.proofs.Members.{first-in, fewer}
+use Rattle.checks.specs.Texts as X
+use Rattle.checks.proofs.Lists.{rows-step, rows-end}
+use borrow.Author.Needs.{needs}
+use Rattle.checks.proofs.rows_length.Statement.{statement}
+use Rattle.checks.proofs.rows_length.Tie as tie
+
+abbrev Inv-loop : tie.InvT-loop
+Inv-loop own rows k o₀ rest₀ o rest = (rest < 2 ^ 64) × (o + length (X.rowsText own rows k rest) ≡ length (X.rowsText own rows k k))
+
+abbrev μ-loop : tie.MeasureT-loop
+μ-loop own rows k o₀ rest₀ o rest = length (members 64 rest)
+
+small : (c : tie.After-first Inv-loop μ-loop) → c .first .result < 64
+small c = rw (c .first .ensures) (first-in 64 _ (c .before .before .loop .inv .0) (c .before .loop-test .taken))
+
+-- what a turn writes, and what it leaves
+turn : (c : tie.After-partners Inv-loop μ-loop) →
+    let l = c .before .before .before .before .before .loop in
+    let a = c .before .before .before .before .before .before .before .before .args in
+    X.rowsText (now (a .own)) (now (a .rows)) (a .k) (l .rest)
+    ≡ X.rowText (c .before .before .before .first .result) (c .partners .result)
+    ++ X.rowsText (now (a .own)) (now (a .rows)) (a .k) (without (l .rest) (single (first 64 (l .rest))))
+turn c =
+    rw (c .partners .ensures, c .before .goal2 .ensures, c .before .before .goal .ensures, c .before .before .before .first .ensures)
+    (rows-step _ _ _ _ (c .before .before .before .before .before .loop .inv .0) (c .before .before .before .before .loop-test .taken))
+
+loop-holds : tie.Need-loop-holds Inv-loop μ-loop
+loop-holds c = (search needs, omega arith)
+
+first-requires : tie.Need-first-requires Inv-loop μ-loop
+first-requires c κs = tt
+
+cast-goal : tie.Need-cast-goal Inv-loop μ-loop
+cast-goal c = omega (arith, small c)
+
+add-goal : tie.Need-add-goal Inv-loop μ-loop
+add-goal c = omega (arith, small c)
+
+goal-requires : tie.Need-goal-requires Inv-loop μ-loop
+goal-requires c κs = omega arith
+
+cast-goal-2 : tie.Need-cast-goal-2 Inv-loop μ-loop
+cast-goal-2 c = omega (arith, small (c .before))
+
+add-goal-2 : tie.Need-add-goal-2 Inv-loop μ-loop
+add-goal-2 c = omega (arith, small (c .before))
+
+goal-requires-2 : tie.Need-goal-requires-2 Inv-loop μ-loop
+goal-requires-2 c κs = omega arith
+
+partners-requires : tie.Need-partners-requires Inv-loop μ-loop
+partners-requires c κs = small (c .before .before)
+
+cast-row-length : tie.Need-cast-row-length Inv-loop μ-loop
+cast-row-length c = omega (arith, small (c .before .before .before))
+
+row-length-requires : tie.Need-row-length-requires Inv-loop μ-loop
+row-length-requires c κs = omega (arith, small (c .before .before .before))
+
+add-o : tie.Need-add-o Inv-loop μ-loop
+add-o c = omega (arith, c .row-length .ensures, simp length-append at (ap length (turn (c .before))))
+
+without-first-requires : tie.Need-without-first-requires Inv-loop μ-loop
+without-first-requires c κs = omega (arith, c .before .before .before .before .before .loop-test .taken)
+
+loop-less : tie.Need-loop-less Inv-loop μ-loop
+loop-less c = rw (c .without-first .ensures) (fewer 64 _ (c .before .before .before .before .before .before .before .loop .inv .0) (c .before .before .before .before .before .before .loop-test .taken))
+
+loop-again : tie.Need-loop-again Inv-loop μ-loop
+loop-again c = (c .without-first .ok, rw (c .without-first .ensures) (omega (arith, c .before .before .before .before .before .before .before .loop .inv .1, c .before .row-length .ensures, simp length-append at (ap length (turn (c .before .before))))))
+
+returns : tie.Need-returns Inv-loop μ-loop
+returns c = let a = c .before .before .before .before .args in omega (arith, c .before .loop .inv .1, ap length (rows-end (now (a .own)) (now (a .rows)) (a .k) (c .before .loop .rest) (c .loop-test .left)))
+
+pub rows-length-spec : {M : Type 1} → statement M
+rows-length-spec =
+    tie.close
+    (tie.spec
+    Inv-loop
+    μ-loop
+    loop-holds
+    first-requires
+    cast-goal
+    add-goal
+    goal-requires
+    cast-goal-2
+    add-goal-2
+    goal-requires-2
+    partners-requires
+    cast-row-length
+    row-length-requires
+    add-o
+    without-first-requires
+    loop-less
+    loop-again
+    returns)

@@ -1,0 +1,41 @@
+use Prim.Native.Nat.{ℕ}
+use mathlib.Core.Path.{_≡_, ap}
+use mathlib.Core.Bool.{true}
+use mathlib.Core.List.{_++_}
+use native.Mathlib.Omega.{arith}
+use denote.Ref.{now}
+use lib.ListN.{length, length-append}
+use Rattle.text.proofs.Laws.{then, recast}
+use Rattle.checks.specs.Texts as Y
+use Rattle.stage_texts.specs.Texts as X
+use Rattle.stage_texts.proofs.Whole.{checks-parts}
+use borrow.Author.Needs.{needs}
+use Rattle.stage_texts.proofs.put_checks.Statement.{statement}
+use Rattle.stage_texts.proofs.put_checks.Tie as tie
+
+-- the two parts of the text
+parts : (c : tie.After-checks-of) →
+    let a = c .before .before .before .before .before .before .args in
+    let k : ℕ = c .checks-of .result .pairs in
+    Y.groundsText (c .checks-of .result .ground) ++ Y.pairsText (now (a .sets)) (now (a .rows)) (a .p) (a .q) k k ≡ X.checksText (a .head) (now (a .sets)) (now (a .grounds)) (now (a .rows)) true (a .p) (a .q)
+parts c = rw (c .checks-of .ensures .0, c .checks-of .ensures .1) (checks-parts _ _ _ _ _ _)
+
+checks-of-requires : tie.Need-checks-of-requires
+checks-of-requires c κs = ((omega arith, (omega arith, omega arith)), (search))
+
+put-grounds-requires : tie.Need-put-grounds-requires
+put-grounds-requires c κs = omega (arith, simp length-append at (ap length (parts (c .before))))
+
+put-pairs-requires : tie.Need-put-pairs-requires
+put-pairs-requires c κs = ((omega arith, omega arith), omega (arith, simp length-append at (ap length (parts (c .before .before .before .before .before)))))
+
+same-length : tie.Need-same-length
+same-length c = search needs
+
+returns : tie.Need-returns
+returns c = recast (parts (c .before .before .before .before .before .before .before .before)) (then (c .before .before .before .before .before .before .put-grounds .ensures) (c .before .before .put-pairs .ensures))
+
+pub put-checks-spec : {M : Type 1} → statement M
+put-checks-spec =
+    tie.close
+    (tie.spec checks-of-requires put-grounds-requires put-pairs-requires same-length returns)
