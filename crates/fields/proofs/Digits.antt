@@ -31,7 +31,7 @@ module _ (b : List ℕ) (at : ℕ) where
   pub number-eight : (x₀ x₁ x₂ x₃ x₄ x₅ x₆ x₇ : ℕ) → x₀ ≡ byte b at → x₁ ≡ byte b (at + 1) → x₂ ≡ byte b (at + 2) → x₃ ≡ byte b (at + 3)
       → x₄ ≡ byte b (at + 4) → x₅ ≡ byte b (at + 5) → x₆ ≡ byte b (at + 6) → x₇ ≡ byte b (at + 7)
       → ((x₀ * 0x100000000000000 + x₁ * 0x1000000000000) + (x₂ * 0x10000000000 + x₃ * 0x100000000))
-      + ((x₄ * 0x1000000 + x₅ * 0x10000) + (x₆ * 0x100 + x₇))
+      + ((x₄ * 0x1000000 + x₅ * 0x10000) + (x₆ * 0x100 + x₇ * 0x1))
       ≡ number b at 8
   unfolding number
   number-eight x₀ x₁ x₂ x₃ x₄ x₅ x₆ x₇ e₀ e₁ e₂ e₃ e₄ e₅ e₆ e₇ =

@@ -54,7 +54,7 @@ pub fn whole_set(b: &[u8], at: usize) -> u64
     let first = wide(b[at]) * 0x100_0000_0000_0000 + wide(b[at + 1]) * 0x1_0000_0000_0000;
     let second = wide(b[at + 2]) * 0x100_0000_0000 + wide(b[at + 3]) * 0x1_0000_0000;
     let third = wide(b[at + 4]) * 0x100_0000 + wide(b[at + 5]) * 0x1_0000;
-    let fourth = wide(b[at + 6]) * 0x100 + wide(b[at + 7]);
+    let fourth = wide(b[at + 6]) * 0x100 + wide(b[at + 7]) * 0x1;
     (first + second) + (third + fourth)
 }
 

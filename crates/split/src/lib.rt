@@ -105,7 +105,8 @@ fn mark(k: bool) -> u8
     if k { b',' } else { b'&' }
 }
 
-// Writes the text of the set's house form from place `at`: in parentheses if it is nested in another, unless it is a goal.
+// Writes the text of the set's house form from place `at`: in parentheses if it is nested in another, unless it is a goal. A goal is written as its
+// number; on every larger member the function calls itself.
 pub fn put_form(
     out: &mut [u8],
     at: usize,
@@ -128,7 +129,12 @@ pub fn put_form(
     while rest != 0 {
         let m = member(after, prior, k, rest);
         let c = m.goals;
-        o = put_form(out, o, after, prior, c, true);
+        let g = sets::first32(c);
+        if sets::single32(g) == c {
+            o = text::put_number(out, o, (g + 1) as u8);
+        } else {
+            o = put_form(out, o, after, prior, c, true);
+        }
         rest = sets::without32(rest, c);
         o = text::put_if(out, o, sep, rest != 0);
     }

@@ -103,6 +103,9 @@ shared-slice-read-wide-8 c = search needs
 wide-requires-8 : tie.Need-wide-requires-8
 wide-requires-8 c κs = search needs
 
+mul-fourth-2 : tie.Need-mul-fourth-2
+mul-fourth-2 c = search needs
+
 add-fourth : tie.Need-add-fourth
 add-fourth c = search needs
 
@@ -157,6 +160,7 @@ whole-set-spec =
     add-wide-7
     shared-slice-read-wide-8
     wide-requires-8
+    mul-fourth-2
     add-fourth
     add-result
     add-result-2
