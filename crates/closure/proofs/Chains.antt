@@ -1,4 +1,4 @@
--- The closure from the last goal down. Callers may use `rows-rise` and `closing-of`.
+-- The closure from the last goal down.
 use mathlib.Core.Path.{_≡_, sym, ap, _∙_, subst}
 use mathlib.Core.Bool.{Bool, true, _&&_, _||_, false≢true}
 use mathlib.Core.List.{List}

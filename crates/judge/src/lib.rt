@@ -12,7 +12,7 @@ fn common(set: u64, rows: &[u64; 64]) -> u64
     while rest != 0 {
         let x = sets::first(rest);
         all = sets::meet(all, rows[x as usize]);
-        rest = sets::without(rest, sets::single(x));
+        rest = sets::without_first(rest);
     }
     all
 }

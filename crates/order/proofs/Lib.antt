@@ -1,3 +1,4 @@
 pub mod Waits
+pub mod Closing
 pub mod Record
 pub mod Theorems

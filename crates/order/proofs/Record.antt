@@ -11,19 +11,17 @@ use Rattle.sets.specs.Sets.{has, setOf}
 use Rattle.sets.proofs.Builder.{setOf-lt, setOf-ext, has-setOf-in}
 use Rattle.arrays.specs.Table.{table}
 use Rattle.arrays.proofs.Table.{table-at, table-cong}
-use Rattle.graph.specs.Graph.{goalsOf, rowsOf, Within}
-use Rattle.graph.proofs.Rows.{rows-within}
+use Rattle.graph.specs.Graph.{goalsOf, rowsOf}
 use Rattle.graph.specs.declared.Graph.{Graph}
 use Rattle.judge.specs.ByRows.{waitsBy}
 use Rattle.judge.proofs.Listed.{waits-listed}
 use Rattle.decoding.specs.Clause.{goalSets, pairRows, Holding}
-use Rattle.closure.specs.Closing.{Rising, closing}
-use Rattle.closure.proofs.Chains.{rows-rise, closing-of}
+use Rattle.closure.specs.Closing.{closing}
+use Rattle.closure.proofs.Chains.{closing-of}
 use Rattle.fields.specs.Facts.{groundAt, freeAt}
 use Rattle.record.specs.Fields.{goalCount, groundSet, goalSet, listed}
 use Rattle.order.specs.Order.{earlier, waits, before, order}
 use Rattle.order.specs.Arrays.{waitsAt, waitRow, waitRows, waiting}
-use Rattle.order.proofs.Theorems.{waits-rise}
 
 -- goals counted from 0
 earlier-at : (n i j : ℕ) → j < n → ltb i j ≡ earlier n (suc i) (suc j)
@@ -80,11 +78,7 @@ module _ (b : List ℕ) where
         (ap (λ (l : List ℕ). record { n = goalCount b; rows = l })
         (table-cong 32 (goalCount b) _ (λ i. goalsOf (goalCount b) (waits b (suc i))) (λ i l. row-is i l)))
 
-    -- what the closure asks of a graph of waits, and what it makes of it
-    pub waiting-good : (g : Graph) → g ≡ waiting b → (g .n ≤ 32) × Within (g .n) (g .rows) × Rising (g .rows)
-    unfolding waiting
-    waiting-good g e = rw e (h, rows-within (goalCount b) (waits b) h, rows-rise (goalCount b) (waits b) h (waits-rise b))
-
+    -- and their closure
     pub closing-waits : (g : Graph) → g ≡ waiting b → closing g ≡ order b
     unfolding waiting order before
     closing-waits g e = ap closing e ∙ closing-of (goalCount b) (waits b) h

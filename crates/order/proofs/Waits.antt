@@ -1,17 +1,21 @@
 -- How a loop makes the row of a goal.
-use mathlib.Core.Path.{_≡_, refl, sym, ap, _∙_}
-use mathlib.Core.Bool.{Bool, cond, _&&_}
+use mathlib.Core.Path.{_≡_, refl, sym, ap, ap₂, _∙_}
+use mathlib.Core.Bool.{Bool, true, cond, not, _&&_, false≢true}
+use mathlib.Core.Logic.{dite}
 use mathlib.Core.List.{List}
 use Prim.Native.Nat.{ℕ, _+_, _*_, _%_, _^_, _≤_, _<_}
 use native.Mathlib.Nat.{mod-eq-of-lt, pow-suc}
 use native.Mathlib.Numerals.{add-one}
+use native.Mathlib.Decide.{decLt}
 use native.Mathlib.Omega.{arith}
-use lib.ListN.{getD, set}
+use lib.Dec.{ltb}
+use lib.ListN.{getD}
 use lib.Pow.{pow-pos, pow-lt, pow-mono}
-use borrow.Author.Tests.{lt-ltb, le-ltb}
-use Rattle.sets.specs.Sets.{union, single}
-use Rattle.sets.proofs.Laws.{has-empty}
-use Rattle.sets.proofs.Builder.{setOf-ext, setOf-more, setOf-lt}
+use borrow.Author.Tests.{lt-ltb, le-ltb, ltb-true}
+use Rattle.logic.proofs.Bools.{and-l, and-r, not-true}
+use Rattle.sets.specs.Sets.{has, union, without, single, below}
+use Rattle.sets.proofs.Laws.{has-empty, has-without, has-below}
+use Rattle.sets.proofs.Builder.{setOf-ext, setOf-more, setOf-lt, has-setOf, has-setOf-in, without-lt}
 use Rattle.judge.specs.ByRows.{waitsBy}
 use Rattle.order.specs.Arrays.{waitsAt, waitRow}
 
@@ -40,6 +44,34 @@ module _ (ground free : ℕ) (goals rows : List ℕ) (i : ℕ) where
   pub row-small : (n : ℕ) → n ≤ 32 → waitRow ground free goals rows n i < 2 ^ 32
   unfolding waitRow
   row-small n h = omega (arith, setOf-lt n (λ j. waitsAt ground free goals rows i j), pow-mono {i = n} {j = 32} h)
+
+  -- of the goals behind goal i + 1 the row has those that wait
+  pub row-has : (n j : ℕ) → i < j → j < n → has (waitRow ground free goals rows n i) j ≡ waitsBy ground free rows 64 (getD goals i 0) (getD goals j 0)
+  unfolding waitRow
+  row-has n j l h =
+      has-setOf-in n (λ k. waitsAt ground free goals rows i k) j h
+      ∙ ap (λ (t : Bool). t && waitsBy ground free rows 64 (getD goals i 0) (getD goals j 0)) (lt-ltb i j l)
+
+  -- and it has no other
+  pub row-behind : (n j : ℕ) → has (waitRow ground free goals rows n i) j ≡ true → has (without (below n) (below (i + 1))) j ≡ true
+  unfolding waitRow
+  row-behind n j e =
+      let t = sym (has-setOf n (λ k. waitsAt ground free goals rows i k) j) ∙ e in
+      let h = ltb-true j n (and-l (ltb j n) (waitsAt ground free goals rows i j) t) in
+      let l = ltb-true i j (and-l (ltb i j) (waitsBy ground free rows 64 (getD goals i 0) (getD goals j 0)) (and-r (ltb j n) (waitsAt ground free goals rows i j) t)) in
+      has-without (below n) (below (i + 1)) j
+      ∙ ap₂ (λ (p q : Bool). p && not q) (has-below n j ∙ lt-ltb j n h) (has-below (i + 1) j ∙ le-ltb j (i + 1) (omega arith))
+
+-- the goals behind goal i + 1
+pub behind-out : (n i j : ℕ) → has (without (below n) (below (i + 1))) j ≡ true → (i < j) × (j < n)
+behind-out n i j e =
+    let t = sym (has-without (below n) (below (i + 1)) j) ∙ e in
+    let h = ltb-true j n (sym (has-below n j) ∙ and-l (has (below n) j) (not (has (below (i + 1)) j)) t) in
+    let q = sym (has-below (i + 1) j) ∙ not-true (has (below (i + 1)) j) (and-r (has (below n) j) (not (has (below (i + 1)) j)) t) in
+    (dite (decLt i j) (λ d. d) (λ d. absurd (false≢true (sym q ∙ lt-ltb j (i + 1) (omega arith)))), h)
+
+pub behind-small : (n i : ℕ) → n ≤ 32 → without (below n) (below (i + 1)) < 2 ^ 32
+behind-small n i h = without-lt 32 (below n) (below (i + 1)) (omega (arith, pow-pos n, pow-mono {i = n} {j = 32} h))
 
 -- the single set of the goal behind goal i + 1, and those that follow, as the machine computes them
 pub one-next : (j one : ℕ) → one ≡ single j → 2 * one ≡ single (j + 1)

@@ -6,6 +6,7 @@ ghost use denote.Ref.{now};
 ghost use Rattle.sets.specs.Sets as S;
 ghost use Rattle.record.specs.Fields as F;
 ghost use Rattle.decoding.specs.Clause.{Holding};
+ghost use Rattle.closure.specs.Closing as C;
 ghost use Rattle.order.specs.Order as O;
 ghost use Rattle.order.specs.Arrays as W;
 use graph::Graph;
@@ -56,8 +57,66 @@ pub fn waits_of(b: &[u8], goals: &[u64; 32], pairs: &[u64; 64]) -> Graph
     ensures { λ r. ⌜ r ≡ W.waiting (now (b .entry)) ⌝ }
 {
     let n = fields::size_of(fields::byte(b, 5));
-    let ground = fields::set_at(b, 16);
-    wait_rows(n, ground, goals, pairs)
+    wait_rows(n, fields::set_at(b, 16), goals, pairs)
+}
+
+// The goals that goal i + 1 is before: those that wait for it and those that they lead to by the rows behind, which are closed. A goal that a waiting goal
+// leads to is in order already, and is not judged.
+fn closed_row(
+    i: usize,
+    n: usize,
+    ground: u64,
+    free: u64,
+    goals: &[u64; 32],
+    pairs: &[u64; 64],
+    rows: &[u32; 32],
+) -> u32
+    requires { ⌜ (i < n) × (n ≤ 32) × C.Closed (now rows) ⌝ }
+    ensures { λ r. ⌜ r ≡ C.reached (now (rows .entry)) (W.waitRow ground free (now (goals .entry)) (now (pairs .entry)) n i) ⌝ }
+{
+    let a = goals[i];
+    let apart = judge::apart(a, ground, free, pairs);
+    let mut all = 0u32;
+    let mut left = sets::without32(sets::below32(n), sets::below32(i + 1));
+    while left != 0 {
+        let k = sets::first32(left);
+        left = sets::without_first32(left);
+        if judge::waits(a, goals[k], ground, free, pairs, apart) {
+            let via = rows[k];
+            all = sets::union32(all, sets::union32(via, sets::single32(k)));
+            left = sets::without32(left, via);
+        }
+    }
+    all
+}
+
+// The same by the facts that hold at goal i + 1: in version 1 the header's ground set, and no variable that is known independent of every other.
+fn row_at(
+    i: usize,
+    n: usize,
+    ground: u64,
+    goals: &[u64; 32],
+    pairs: &[u64; 64],
+    rows: &[u32; 32],
+) -> u32
+    requires { ⌜ (i < n) × (n ≤ 32) × C.Closed (now rows) ⌝ }
+    ensures { λ r. ⌜ r ≡ C.reached (now (rows .entry)) (W.waitRow ground 0 (now (goals .entry)) (now (pairs .entry)) n i) ⌝ }
+{
+    closed_row(i, n, ground, 0, goals, pairs, rows)
+}
+
+// The closure of the waits of n goals, as a new graph: from the last goal down, each row by the rows behind it.
+fn close(n: usize, ground: u64, goals: &[u64; 32], pairs: &[u64; 64]) -> Graph
+    requires { ⌜ n ≤ 32 ⌝ }
+    ensures { λ r. ⌜ r ≡ C.closing (W.waitRows n ground (now (goals .entry)) (now (pairs .entry))) ⌝ }
+{
+    let mut closed = Graph::empty(n);
+    let mut k = n;
+    while k > 0 {
+        k -= 1;
+        closed.rows[k] = row_at(k, n, ground, goals, pairs, &closed.rows);
+    }
+    closed
 }
 
 // The order of a record.
@@ -65,6 +124,7 @@ pub fn order_of(b: &[u8], goals: &[u64; 32], pairs: &[u64; 64]) -> Graph
     requires { ⌜ (F.goalCount (now b) ≤ 32) × Holding (now b) (now goals) (now pairs) ⌝ }
     ensures { λ r. ⌜ r ≡ O.order (now (b .entry)) ⌝ }
 {
-    let g = waits_of(b, goals, pairs);
-    closure::close(g)
+    let n = fields::size_of(fields::byte(b, 5));
+    let ground = fields::set_at(b, 16);
+    close(n, ground, goals, pairs)
 }

@@ -1,15 +1,6 @@
 // The rows of a dependency graph, lent: putting one set of goals before another.
 ghost use mathlib.Core.Path.{_≡_};
-ghost use Rattle.sets.specs.Sets as S;
 ghost use Rattle.rows.specs.Rows.{Words, Linked};
-
-// The members but the first.
-fn rest(set: u32) -> u32
-    requires { ⌜ (set ≡ 0 → ⊥) ⌝ }
-    ensures { λ r. ⌜ r ≡ S.without set (S.single (S.first 32 set)) ⌝ }
-{
-    set & (set - 1)
-}
 
 // Each goal of `front` is before each goal of `later`, beside what the rows have. Only the rows of `front` are touched.
 pub fn link(rows: &mut [u32; 32], front: u32, later: u32)
@@ -20,6 +11,6 @@ pub fn link(rows: &mut [u32; 32], front: u32, later: u32)
     while left != 0 {
         let i = sets::first32(left);
         rows[i] = rows[i] | later;
-        left = rest(left);
+        left = sets::without_first32(left);
     }
 }

@@ -46,29 +46,25 @@ element-copy-out-meet c = omega (arith, c .first .ensures, first-in 64 (c .befor
 meet-requires : tie.Need-meet-requires Inv-loop μ-loop
 meet-requires c κs = search needs
 
--- src/lib.rt:17:36
-single-requires : tie.Need-single-requires Inv-loop μ-loop
-single-requires c κs = omega (arith, c .before .before .first .ensures, first-in 64 (c .before .before .before .before .loop .rest) (c .before .before .before .before .loop .inv .0) (c .before .before .before .loop-test .taken))
-
 -- src/lib.rt:17:9
-without-requires : tie.Need-without-requires Inv-loop μ-loop
-without-requires c κs = search needs
+without-first-requires : tie.Need-without-first-requires Inv-loop μ-loop
+without-first-requires c κs = omega (arith, c .before .before .before .loop-test .taken)
 
 -- src/lib.rt:14:5
 loop-less : tie.Need-loop-less Inv-loop μ-loop
 loop-less c =
-    let l = c .before .before .before .before .before .before .loop in
-    rw (c .without .ensures, c .before .single .ensures, c .before .before .before .before .first .ensures) (fewer 64 (l .rest) (l .inv .0) (c .before .before .before .before .before .loop-test .taken))
+    let l = c .before .before .before .before .before .loop in
+    rw (c .without-first .ensures) (fewer 64 (l .rest) (l .inv .0) (c .before .before .before .before .loop-test .taken))
 
 -- src/lib.rt:14:5
 loop-again : tie.Need-loop-again Inv-loop μ-loop
 loop-again c =
-    let l = c .before .before .before .before .before .before .loop in
-    let rows = c .before .before .before .before .before .before .before .before .args .rows .now in
-    rw (c .without .ensures, c .before .single .ensures, c .before .before .meet .ensures, c .before .before .before .before .first .ensures) (
+    let l = c .before .before .before .before .before .loop in
+    let rows = c .before .before .before .before .before .before .before .args .rows .now in
+    rw (c .without-first .ensures, c .before .meet .ensures, c .before .before .before .first .ensures) (
       without-lt 64 (l .rest) _ (l .inv .0),
       meet-lt 64 (l .all) _ (l .inv .1),
-      common-more rows 64 (l .rest) (l .inv .0) (c .before .before .before .before .before .loop-test .taken) (l .all) (l .inv .1) ∙ l .inv .2,
+      common-more rows 64 (l .rest) (l .inv .0) (c .before .before .before .before .loop-test .taken) (l .all) (l .inv .1) ∙ l .inv .2,
     )
 
 -- src/lib.rt:9:1
@@ -91,8 +87,7 @@ common-spec =
     mul-meet
     element-copy-out-meet
     meet-requires
-    single-requires
-    without-requires
+    without-first-requires
     loop-less
     loop-again
     returns)

@@ -1,23 +1,34 @@
 use mathlib.Core.Path.{_∙_}
 use denote.Ref.{now}
-use Rattle.order.proofs.Record.{waiting-good, closing-waits}
+use Rattle.order.proofs.Record.{facts-waits, closing-waits}
 use borrow.Author.Needs.{needs}
 use Rattle.order.proofs.order_of.Statement.{statement}
 use Rattle.order.proofs.order_of.Tie as tie
 
-waits-of-requires : tie.Need-waits-of-requires
-waits-of-requires c κs = search needs
+byte-requires : tie.Need-byte-requires
+byte-requires c κs = search needs
+
+size-of-requires : tie.Need-size-of-requires
+size-of-requires c κs = search needs
+
+set-at-requires : tie.Need-set-at-requires
+set-at-requires c κs = search needs
 
 close-requires : tie.Need-close-requires
-close-requires c κs =
-    let s = c .before .before in
-    waiting-good (now (s .args .b)) (s .pre .0) (c .waits-of .result) (c .waits-of .ensures)
+close-requires c κs = search needs
 
 returns : tie.Need-returns
 returns c =
-    let s = c .before .before .before in
-    let w = c .before .waits-of in
-    c .close .ensures ∙ closing-waits (now (s .args .b)) (s .pre .0) (w .result) (w .ensures)
+    let s = c .before .before .before .before .before in
+    let n = c .before .before .size-of .ensures .0 ∙ c .before .before .before .byte .ensures in
+    c .close .ensures ∙ closing-waits (now (s .args .b)) (s .pre .0) _ (facts-waits (now (s .args .b)) (s .pre .0) _ _ _ _ n (c .before .set-at .ensures) (s .pre .1))
 
 pub order-of-spec : {M : Type 1} → statement M
-order-of-spec = tie.close (tie.spec waits-of-requires close-requires returns)
+order-of-spec =
+    tie.close
+    (tie.spec
+    byte-requires
+    size-of-requires
+    set-at-requires
+    close-requires
+    returns)

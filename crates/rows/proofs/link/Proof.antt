@@ -7,10 +7,6 @@ use Rattle.sets.proofs.Members.{first-in}
 use Rattle.rows.proofs.Linking.{Linking, linking-start, linking-turn, linking-less, linking-end}
 use Rattle.rows.proofs.link.Statement.{statement}
 use Rattle.rows.proofs.link.Tie as tie
-use Rattle.rows.proofs.link.Reads as reads
-use Rattle.rows.proofs.link.Lts as lts
-use Rattle.rows.proofs.rest.Reads as rest-reads
-use Rattle.sets.proofs.first32.Reads as first32-reads
 
 abbrev Inv-loop : tie.InvT-loop
 Inv-loop rows₀ front later left₀ rows left = Linking front later rows₀ rows left
@@ -49,20 +45,20 @@ element-write-rows : tie.Need-element-write-rows Inv-loop μ-loop
 element-write-rows c = row (c .before)
 
 -- src/lib.rt
-rest-requires : tie.Need-rest-requires Inv-loop μ-loop
-rest-requires c κs = c .before .before .loop-test .taken
+without-first32-requires : tie.Need-without-first32-requires Inv-loop μ-loop
+without-first32-requires c κs = c .before .before .loop-test .taken
 
 -- src/lib.rt
 loop-less : tie.Need-loop-less Inv-loop μ-loop
 loop-less c =
     let l = c .before .before .before .before .loop in
-    linking-less _ _ _ (l .left) _ (c .rest .ensures) _ (c .before .before .before .loop-test .taken) (l .inv)
+    linking-less _ _ _ (l .left) _ (c .without-first32 .ensures) _ (c .before .before .before .loop-test .taken) (l .inv)
 
 -- src/lib.rt
 loop-again : tie.Need-loop-again Inv-loop μ-loop
 loop-again c =
     let l = c .before .before .before .before .loop in
-    linking-turn _ _ _ (l .rows) (l .left) _ _ (c .before .before .first32 .ensures) (c .rest .ensures) (search needs) (c .before .before .before .loop-test .taken) (l .inv)
+    linking-turn _ _ _ (l .rows) (l .left) _ _ (c .before .before .first32 .ensures) (c .without-first32 .ensures) (search needs) (c .before .before .before .loop-test .taken) (l .inv)
 
 -- src/lib.rt
 returns : tie.Need-returns Inv-loop μ-loop
@@ -80,7 +76,7 @@ link-spec =
     element-copy-out-rows
     mul-rows-2
     element-write-rows
-    rest-requires
+    without-first32-requires
     loop-less
     loop-again
     returns)
