@@ -7,8 +7,8 @@ use Prim.Native.Nat.{ℕ, suc, _+_, _/_, _%_, _^_, _≤_, _<_}
 use native.Mathlib.Omega.{arith}
 use lib.Dec.{ltb, eqb}
 use lib.ListN.{length, length-append}
-use borrow.Author.Tests.{eq-eqb, ne-eqb}
-use Rattle.sets.specs.Sets.{without, first, single, count}
+use borrow.Author.Tests.{eq-eqb, ne-eqb, eqb-true}
+use Rattle.sets.specs.Sets.{has, without, first, single, count}
 use Rattle.text.specs.Text.{Wrote, decimal, only, pickText}
 use Rattle.text.proofs.Laws.{then, recast, Left, start, onward, finish, left-kept}
 use Rattle.graph.specs.Graph.{hasGoal, ahead}
@@ -23,7 +23,7 @@ use Rattle.split.specs.Split.{Has, Ordered, formOf, formText}
 use Rattle.split.proofs.Grow.{clash}
 use Rattle.split.proofs.Forms.{Taken, last, next, take, member-less, rest-part, ordered-part, starts-ahead, c-ordered, c-lt, rest-less, form-goal}
 use Rattle.split.specs.Hang.{behind}
-use Rattle.sets.proofs.Laws.{first-member}
+use Rattle.sets.proofs.Laws.{has-single, first-member}
 use Rattle.sets.proofs.Members.{first-in}
 
 -- a number as both texts have it
@@ -58,15 +58,21 @@ module _ (after : List ℕ) (set : ℕ) (nested : Bool) where
       go true = refl
       go false = append-nil (text (join k a ms))
 
--- Of a set that is not empty, the lowest goal less one, x, and that goal alone, s, as they are computed.
-module _ {after prior : List ℕ} {set x : ℕ} (l : set < 2 ^ 32) (o : Ordered after prior set) (f : x ≡ first 32 set) where
-  pub under : x < 32
-  under = omega (arith, f, lowest-in 32 set l (o .some .0) (o .some .1))
+-- Of a set that is not empty: its lowest goal less one, and the goal that it has alone, less one, as they are computed.
+module _ {after prior : List ℕ} {set : ℕ} (l : set < 2 ^ 32) (o : Ordered after prior set) (x : ℕ) where
+  pub under : x ≡ first 32 set → x < 32
+  under f = omega (arith, f, lowest-in 32 set l (o .some .0) (o .some .1))
+
+  alone : {s : ℕ} → s ≡ single x → s ≡ set → x ≡ first 32 set
+  alone p q =
+      eqb-true x (first 32 set)
+      (sym (has-single x (first 32 set)) ∙ ap (λ (m : ℕ). has m (first 32 set)) (sym p ∙ q) ∙ first-member 32 set (lowest-in 32 set l (o .some .0) (o .some .1)))
 
   -- a goal's number is written
   pub goal-wrote : {s : ℕ} → s ≡ single x → s ≡ set → (nested : Bool) {at e : ℕ} {old new : List ℕ} → Wrote (decimal (x + 1)) at old e new
       → Wrote (formText nested after set) at old e new
   goal-wrote p q nested w =
+      let f = alone p q in
       let e : suc (first 32 set) ≡ x + 1 = omega (arith, f) in
       recast (text-goal after set nested (x + 1) (form-goal after prior set l o (ap single (sym f) ∙ sym p ∙ q) ∙ ap goal e)) w
 

@@ -129,7 +129,7 @@ pub fn put_form(
     while rest != 0 {
         let m = member(after, prior, k, rest);
         let c = m.goals;
-        let g = sets::first32(c);
+        let g = m.start;
         if sets::single32(g) == c {
             o = text::put_number(out, o, (g + 1) as u8);
         } else {

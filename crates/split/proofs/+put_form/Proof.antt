@@ -58,7 +58,7 @@ low : (t : ℕ) (c : put-form-lts.After-first32 (put-form-K t) (put-form-at t) p
 low t c =
     let s = c .before .before in
     let l : s .args .set < 2 ^ 32 = search needs in
-    under l (s .pre .1 .0) (c .first32 .ensures)
+    under l (s .pre .1 .0) _ (c .first32 .ensures)
 
 low-has : (t : ℕ) (c : put-form-lts.After-first32 (put-form-K t) (put-form-at t) put-form.Post put-form-Inv-loop put-form-μ-loop) → Has (c .before .before .args .set) (suc (c .first32 .result))
 low-has t c =
@@ -117,18 +117,18 @@ a-step t c =
     let f = c .member .ensures in
     step _ _ _ _ _ l r (s .pre .1 .0) (j .0) (j .1) (j .2) (c .before .before .loop .inv) _ _ (f .0 .1) (f .1 .0) (f .1 .1)
 
--- the lowest goal of the member, less one
-low-2 : (t : ℕ) (c : put-form-lts.After-first322 (put-form-K t) (put-form-at t) put-form.Post put-form-Inv-loop put-form-μ-loop) → c .first322 .result < 32
-low-2 t c = let w = a-step t (c .before) in under (w .small) (w .ordered) (c .first322 .ensures)
+-- the member's start
+low-2 : (t : ℕ) (c : put-form-lts.After-member (put-form-K t) (put-form-at t) put-form.Post put-form-Inv-loop put-form-μ-loop) → c .member .result .start < 32
+low-2 t c = c .member .ensures .0 .0
 
 -- the member is written, as a number or by the function itself
 wrote : (t : ℕ) (c : put-form-lts.Joined2 (put-form-K t) (put-form-at t) put-form.Post put-form-Inv-loop put-form-μ-loop) →
-    let l = c .before .before .before .before .before .loop in
-    Wrote (formText true (c .before .before .before .before .before .before .before .before .before .before .before .before .before .before .before .before .args .after .now) (c .before .before .before .member .result .goals)) (l .o) (l .out) (c .if2 .o) (c .if2 .out)
+    let l = c .before .before .before .before .loop in
+    Wrote (formText true (c .before .before .before .before .before .before .before .before .before .before .before .before .before .before .before .args .after .now) (c .before .before .member .result .goals)) (l .o) (l .out) (c .if2 .o) (c .if2 .out)
 wrote t c =
-    let w = a-step t (c .before .before .before) in
+    let w = a-step t (c .before .before) in
     ⊎-elim
-    (λ v. landed (v .6) (v .5) (goal-wrote (w .small) (w .ordered) (c .before .before .first322 .ensures) (c .before .single322 .ensures) (v .0 .taken) true (v .2 .ensures)))
+    (λ v. landed (v .6) (v .5) (goal-wrote (w .small) (w .ordered) _ (c .before .single322 .ensures) (v .0 .taken) true (v .2 .ensures)))
     (λ v. landed (v .6) (v .5) (v .2 .ensures)) (c .if2 .came)
 
 put-form-first32-requires : (t : ℕ) → put-form-lts.Need-first32-requires (put-form-K t) (put-form-at t) put-form.Post put-form-Inv-loop put-form-μ-loop
@@ -153,7 +153,7 @@ put-form-returns : (t : ℕ) → put-form-lts.Need-returns (put-form-K t) (put-f
 put-form-returns t c =
     let s = c .before .before .before .before .before .before .before .before in
     let l : s .args .set < 2 ^ 32 = search needs in
-    goal-wrote l (s .pre .1 .0) (c .before .before .before .before .before .before .first32 .ensures) (c .before .before .before .before .before .single32 .ensures) (c .before .before .before .before .if1 .taken) (s .args .nested) (c .before .before .put-number .ensures)
+    goal-wrote l (s .pre .1 .0) _ (c .before .before .before .before .before .single32 .ensures) (c .before .before .before .before .if1 .taken) (s .args .nested) (c .before .before .put-number .ensures)
 
 put-form-component-requires : (t : ℕ) → put-form-lts.Need-component-requires (put-form-K t) (put-form-at t) put-form.Post put-form-Inv-loop put-form-μ-loop
 put-form-component-requires t c κs = (low t (c .before .before), low-has t (c .before .before), c .before .before .before .before .pre .1 .0 .turned)
@@ -174,39 +174,36 @@ put-form-loop-holds t c =
 put-form-member-requires : (t : ℕ) → put-form-lts.Need-member-requires (put-form-K t) (put-form-at t) put-form.Post put-form-Inv-loop put-form-μ-loop
 put-form-member-requires t c κs = (ordered-behind _ _ (rest-ordered t c), rest-ordered t c .turned, rest-some t c)
 
-put-form-first32-requires-2 : (t : ℕ) → put-form-lts.Need-first32-requires-2 (put-form-K t) (put-form-at t) put-form.Post put-form-Inv-loop put-form-μ-loop
-put-form-first32-requires-2 t c κs = search needs
-
 put-form-single32-requires-2 : (t : ℕ) → put-form-lts.Need-single32-requires-2 (put-form-K t) (put-form-at t) put-form.Post put-form-Inv-loop put-form-μ-loop
 put-form-single32-requires-2 t c κs = low-2 t c
 
 put-form-add-put-number-2 : (t : ℕ) → put-form-lts.Need-add-put-number-2 (put-form-K t) (put-form-at t) put-form.Post put-form-Inv-loop put-form-μ-loop
-put-form-add-put-number-2 t c = let u : c .before .before .before .first322 .result < 32 = low-2 t (c .before .before .before) in search needs
+put-form-add-put-number-2 t c = let u : c .before .before .before .member .result .start < 32 = low-2 t (c .before .before .before) in search needs
 
 put-form-cast-put-number-2 : (t : ℕ) → put-form-lts.Need-cast-put-number-2 (put-form-K t) (put-form-at t) put-form.Post put-form-Inv-loop put-form-μ-loop
-put-form-cast-put-number-2 t c = let u : c .before .before .before .first322 .result < 32 = low-2 t (c .before .before .before) in search needs
+put-form-cast-put-number-2 t c = let u : c .before .before .before .member .result .start < 32 = low-2 t (c .before .before .before) in search needs
 
 put-form-put-number-requires-2 : (t : ℕ) → put-form-lts.Need-put-number-requires-2 (put-form-K t) (put-form-at t) put-form.Post put-form-Inv-loop put-form-μ-loop
-put-form-put-number-requires-2 t c κs = (omega (arith, low-2 t (c .before .before .before)), omega (arith, a-step t (c .before .before .before .before) .room, bound t (c .before .before .before .before .before .before .before)))
+put-form-put-number-requires-2 t c κs = (omega (arith, low-2 t (c .before .before .before)), omega (arith, a-step t (c .before .before .before) .room, bound t (c .before .before .before .before .before .before)))
 
 put-form-put-form-requires : (t : ℕ) → put-form-lts.Need-put-form-requires (put-form-K t) (put-form-at t) put-form.Post put-form-Inv-loop put-form-μ-loop
 put-form-put-form-requires t c κs =
-    let w = a-step t (c .before .before .before .before) in
-    (omega (arith, w .fewer, c .before .before .before .before .before .before .before .before .before .before .before .before .before .before .before .before .before .pre .0), (w .ordered, omega (arith, w .room, bound t (c .before .before .before .before .before .before .before))))
+    let w = a-step t (c .before .before .before) in
+    (omega (arith, w .fewer, c .before .before .before .before .before .before .before .before .before .before .before .before .before .before .before .before .pre .0), (w .ordered, omega (arith, w .room, bound t (c .before .before .before .before .before .before))))
 
 put-form-without32-requires : (t : ℕ) → put-form-lts.Need-without32-requires (put-form-K t) (put-form-at t) put-form.Post put-form-Inv-loop put-form-μ-loop
 put-form-without32-requires t c κs = search needs
 
 put-form-put-if-requires-2 : (t : ℕ) → put-form-lts.Need-put-if-requires-2 (put-form-K t) (put-form-at t) put-form.Post put-form-Inv-loop put-form-μ-loop
-put-form-put-if-requires-2 t c κs = omega (arith, a-step t (c .before .before .before .before .before) .room, bound t (c .before .before .before .before .before .before .before .before), wrote t (c .before .before) .place)
+put-form-put-if-requires-2 t c κs = omega (arith, a-step t (c .before .before .before .before) .room, bound t (c .before .before .before .before .before .before .before), wrote t (c .before .before) .place)
 
 put-form-loop-less : (t : ℕ) → put-form-lts.Need-loop-less (put-form-K t) (put-form-at t) put-form.Post put-form-Inv-loop put-form-μ-loop
-put-form-loop-less t c = subst (λ (z : ℕ). count z < count (c .before .before .before .before .before .before .before .before .before .before .loop .rest)) (sym (c .before .before .before .before .without32 .ensures)) (a-step t (c .before .before .before .before .before .before .before .before) .less)
+put-form-loop-less t c = subst (λ (z : ℕ). count z < count (c .before .before .before .before .before .before .before .before .before .loop .rest)) (sym (c .before .before .before .before .without32 .ensures)) (a-step t (c .before .before .before .before .before .before .before) .less)
 
 put-form-loop-again : (t : ℕ) → put-form-lts.Need-loop-again (put-form-K t) (put-form-at t) put-form.Post put-form-Inv-loop put-form-μ-loop
 put-form-loop-again t c =
-    let w = a-step t (c .before .before .before .before .before .before .before .before) in
-    let m = c .before .before .before .before .before .before .before .before .before .before .before .before .before .before .before .mark .ensures in
+    let w = a-step t (c .before .before .before .before .before .before .before) in
+    let m = c .before .before .before .before .before .before .before .before .before .before .before .before .before .before .mark .ensures in
     w .on (wrote t (c .before .before .before .before .before)) _ (c .before .before .before .before .without32 .ensures) (recast (ap (only (not (eqb (c .before .before .before .before .without32 .result) 0))) m) (c .before .before .put-if2 .ensures))
 
 put-form-put-if-requires-3 : (t : ℕ) → put-form-lts.Need-put-if-requires-3 (put-form-K t) (put-form-at t) put-form.Post put-form-Inv-loop put-form-μ-loop
@@ -240,7 +237,6 @@ pub +put-form-spec : {M : Type 1} → statement M
     (put-form-put-if-requires t)
     (put-form-loop-holds t)
     (put-form-member-requires t)
-    (put-form-first32-requires-2 t)
     (put-form-single32-requires-2 t)
     (put-form-add-put-number-2 t)
     (put-form-cast-put-number-2 t)
