@@ -13,12 +13,13 @@ use Rattle.grammar.specs.Reader.{Sign, digit, joiner, opener, closer, other, si
 use Rattle.grammar.proofs.Signs.{Is, sign-is}
 use Rattle.grammar.proofs.Sound.{next}
 use Rattle.rows.specs.Rows.{Words}
-use Rattle.parser.specs.declared.Node.{Node}
-use Rattle.parser.specs.declared.Part.{Part}
-use Rattle.parser.specs.declared.Part.the-variants.{Read, Bad}
-use Rattle.parser.specs.Reads.{Comes, within, Answer, NoAnd, NoMark}
+use Rattle.numbers.specs.declared.Node.{Node}
+use Rattle.numbers.specs.declared.Part.{Part}
+use Rattle.numbers.specs.declared.Part.the-variants.{Read, Bad}
+use Rattle.numbers.specs.Reads.{Comes, Answer}
+use Rattle.numbers.proofs.Runs.{takes, alike}
+use Rattle.parser.specs.Reads.{within, NoAnd, NoMark}
 use Rattle.parser.proofs.Tells.{joinKind, FrontTold, Links, clash, told-alone, told-push, told-close}
-use Rattle.parser.proofs.Runs.{takes, alike}
 
 -- ---- what the next byte is not
 abbrev pub Stop : Bool → ℕ → Type 0

@@ -3,21 +3,20 @@ use mathlib.Core.Path.{_≡_, refl, sym, ap, ap₂, _∙_, subst}
 use mathlib.Core.Bool.{Bool, true, false, _&&_, _||_, cond, or-assoc, or-false, true≢false}
 use mathlib.Core.List.{List}
 use mathlib.Core.Option.{none, some}
-use mathlib.Core.Logic.{_⊎_, inl, inr, ⊎-elim}
-use Prim.Native.Nat.{ℕ, zero, suc, _+_, _-_, _<_, _≤_}
+use Prim.Native.Nat.{ℕ, zero, suc, _+_, _<_, _≤_}
 use native.Mathlib.Omega.{arith}
-use lib.Dec.{eqb, leb}
-use borrow.Author.Tests.{eq-eqb, ne-eqb, eqb-true, eqb-false, le-leb, leb-false}
-use Rattle.sets.specs.Sets.{has, union, meet, single}
-use Rattle.sets.proofs.Laws.{has-union, has-meet, has-empty, has-single, none-empty}
+use lib.Dec.{leb}
+use borrow.Author.Tests.{le-leb}
+use Rattle.logic.proofs.Bools.{or-false as neither}
+use Rattle.sets.specs.Sets.{has, union, meet}
+use Rattle.sets.proofs.Laws.{has-union, has-meet, has-empty, none-empty}
 use Rattle.graph.specs.Graph.{ahead}
-use Rattle.expression.specs.Expr.{Expr, goal, join, Members, one, more, times, timesM, stands, standsM, before, beforeM}
-use Rattle.expression.proofs.Bools.{test, by-test, or-false as neither}
+use Rattle.expression.specs.Expr.{Expr, join, Members, one, more, times, timesM, stands, standsM, before, beforeM}
 use Rattle.grammar.specs.Reader.{Front, close, push}
 use Rattle.rows.specs.Rows.{Words, Linked}
-use Rattle.parser.specs.declared.Kind.{Kind}
-use Rattle.parser.specs.declared.Kind.the-variants.{Goal, Group as Groups, Sequence as Sequences}
-use Rattle.parser.specs.Reads.{maskOf, extraOf, kindOf, bit, Told}
+use Rattle.numbers.specs.declared.Kind.{Kind}
+use Rattle.numbers.specs.declared.Kind.the-variants.{Group as Groups, Sequence as Sequences}
+use Rattle.numbers.specs.Reads.{kindOf, bit, Told}
 
 -- ---- Booleans
 bool-push : (r bx bm k s x y m : Bool) → (r || (bx || bm || (k && x && m) || (k && (s && (y || m))))) ≡ ((r || bx || (k && (s && y))) || (bm || (k && ((s || x) && m))))
@@ -72,41 +71,6 @@ bit-union a b z (suc i) =
     go false true e = omega arith
     go false false e = omega arith
 
--- ---- a number
-pub told-goal : (v : ℕ) (rows : List ℕ) → 1 ≤ v → Words rows → Told (goal v) rows Goal (maskOf v) (extraOf v) rows
-told-goal v rows lo w =
-    record {
-      kinds = refl;
-      stand = λ i h. by-test (λ m. has m i ≡ stands (goal v) (suc i)) (leb v 32) (λ t. small i) (λ t. large i h (leb-false v 32 t));
-      once = λ z u. once (test (leb v 32)) z u;
-      order = λ i j h k. sym (or-false (ahead rows (suc i) (suc j)));
-      words = w;
-    }
-  where
-    none-one : (b : Bool) → b ≡ leb 1 (cond b 1 0)
-    none-one true = refl
-    none-one false = refl
-
-    same : (i : ℕ) → eqb (v - 1) i ≡ eqb (suc i) v
-    same i = ⊎-elim
-        (λ t. eq-eqb (v - 1) i (omega (arith, eqb-true (suc i) v t)) ∙ sym t)
-        (λ t. ne-eqb (v - 1) i (λ e. eqb-false (suc i) v t (omega arith)) ∙ sym t)
-        (test (eqb (suc i) v))
-
-    small : (i : ℕ) → has (single (v - 1)) i ≡ stands (goal v) (suc i)
-    small i = has-single (v - 1) i ∙ same i ∙ none-one (eqb (suc i) v)
-
-    once : (leb v 32 ≡ true) ⊎ (leb v 32 ≡ false) → extraOf v ≡ 0 → (u : ℕ) → times (goal v) u ≤ bit (maskOf v) u
-    once (inr t) z u = let one-zero : _≡_ {A = ℕ} 1 0 = sym (ap (λ b. cond {A = ℕ} b 0 1) t) ∙ z in absurd (omega arith)
-    once (inl t) z zero = let e : cond {A = ℕ} (eqb 0 v) 1 0 ≡ 0 = ap (λ b. cond {A = ℕ} b 1 0) (ne-eqb 0 v (λ q. omega arith)) in omega arith
-    once (inl t) z (suc i) =
-        let m : maskOf v ≡ single (v - 1) = ap (λ b. cond {A = ℕ} b (single (v - 1)) 0) t in
-        let e : cond {A = ℕ} (has (maskOf v) i) 1 0 ≡ cond (eqb (suc i) v) 1 0 = ap (λ b. cond {A = ℕ} b 1 0) (ap (λ w. has w i) m ∙ has-single (v - 1) i ∙ same i) in
-        omega arith
-
-    large : (i : ℕ) → i < 32 → 32 < v → has 0 i ≡ stands (goal v) (suc i)
-    large i h lt = has-empty i ∙ sym (ne-eqb (suc i) v (λ e. omega arith)) ∙ none-one (eqb (suc i) v)
-
 -- ---- the front of a join
 abbrev pub joinKind : Bool → Kind
 joinKind true = Sequences
@@ -148,11 +112,6 @@ links-sequence set part rows now h = record { words = h .words; order = λ i j l
 
 pub links-group : (set part : ℕ) (rows : List ℕ) → Words rows → Links false set part rows rows
 links-group set part rows w = record { words = w; order = λ i j l l′. sym (or-false (ahead rows (suc i) (suc j))) }
-
--- a first member alone leaves no order
-pub links-none : (k : Bool) (part : ℕ) (rows : List ℕ) → Words rows → Links k 0 part rows rows
-links-none k part rows w =
-    record { words = w; order = λ i j l l′. sym (ap (λ b. ahead rows (suc i) (suc j) || (k && (b && has part j))) (has-empty i) ∙ nothing k (ahead rows (suc i) (suc j))) }
 
 module _ (k : Bool) (rows₀ : List ℕ) (set extra : ℕ) (rows : List ℕ) (x : Expr) (kind : Kind) (part new : ℕ) (mid now : List ℕ) where
   set-is : Told x rows kind part new mid → (i : ℕ) → i < 32 → has (union set part) i ≡ (has set i || stands x (suc i))

@@ -11,13 +11,13 @@ use native.Mathlib.Numerals.{add-one, add-two}
 use lib.Dec.{eqb, leb, ltb}
 use lib.ListN.{length, getD, drop, drop-of-length-le, List·getD-eq-default}
 use borrow.Author.Tests.{eqb-true, eqb-false, eq-eqb, ne-eqb, leb-true, le-leb, lt-ltb, le-ltb}
+use Rattle.logic.proofs.Bools.{test, and-true}
 use Rattle.sets.specs.Sets.{has, union, single}
 use Rattle.sets.proofs.Laws.{has-union, has-empty, has-single}
-use Rattle.expression.proofs.Bools.{test, and-true}
 use Rattle.grammar.specs.Reader.{Sign, digit, joiner, opener, closer, other, sign}
 use Rattle.grammar.specs.Numbers.{Found, found, fresh, grown, scan, numbers, among, fault}
 use Rattle.grammar.proofs.Signs.{Is, sign-is, sign-digit}
-use Rattle.parser.proofs.Runs.{drop-at}
+use Rattle.numbers.proofs.Runs.{drop-at}
 use Rattle.text_reading.specs.declared.Spot.the-variants.{At, Nowhere}
 use Rattle.text_reading.specs.Answers.{isDigit, foundAt, valueAt, spot, faultIn}
 

@@ -10,7 +10,7 @@ use native.Mathlib.Decide.{decLt}
 use lib.Dec.{eqb, ltb}
 use lib.ListN.{length, getD, replicate, getD-replicate}
 use borrow.Author.Tests.{ne-eqb, eqb-false, leb-true, le-leb, lt-leb, lt-ltb, le-ltb, ltb-true}
-use Rattle.logic.proofs.Bools.{is-false}
+use Rattle.logic.proofs.Bools.{test, is-false, or-false}
 use Rattle.sets.specs.Sets.{has, subset, below}
 use Rattle.sets.proofs.Laws.{has-empty, has-below, member-below, none-empty, subset-has, has-subset}
 use Rattle.sets.proofs.Builder.{members-lt}
@@ -18,7 +18,6 @@ use Rattle.graph.specs.Graph.{hasGoal, ahead, goalsOf, rowsOf}
 use Rattle.graph.proofs.Rows.{goals-ext, rows-ext}
 use Rattle.expression.specs.Search.{orElse}
 use Rattle.expression.specs.Expr.{Expr, times, stands, before, UsesOnce}
-use Rattle.expression.proofs.Bools.{test, or-false}
 use Rattle.expression.proofs.Spec.{stands-in, before-in}
 use Rattle.expression.proofs.Theorems.{uses-in}
 use Rattle.grammar.specs.Reader.{read}
@@ -27,10 +26,11 @@ use Rattle.grammar.specs.Reading.{refusal, numbered, decided, readText}
 use Rattle.grammar.proofs.Decides.{read-accepts}
 use Rattle.grammar.proofs.Goals.{misuse-none}
 use Rattle.rows.specs.Rows.{Words}
-use Rattle.parser.specs.declared.Node.{Node}
-use Rattle.parser.specs.declared.Part.{Part}
-use Rattle.parser.specs.declared.Part.the-variants.{Read as Done, Bad}
-use Rattle.parser.specs.Reads.{bit, Parsed}
+use Rattle.numbers.specs.declared.Node.{Node}
+use Rattle.numbers.specs.declared.Part.{Part}
+use Rattle.numbers.specs.declared.Part.the-variants.{Read as Done, Bad}
+use Rattle.numbers.specs.Reads.{bit}
+use Rattle.parser.specs.Reads.{Parsed}
 use Rattle.text_reading.specs.declared.Outcome.the-variants.{Read}
 use Rattle.text_reading.specs.declared.TextAnswer.{TextAnswer}
 use Rattle.text_reading.specs.declared.Spot.{Spot}

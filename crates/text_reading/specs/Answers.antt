@@ -13,7 +13,7 @@ use Rattle.grammar.specs.Reader.{sign, accepted, read}
 use Rattle.grammar.specs.Numbers.{Found, found, grown, numbers}
 use Rattle.grammar.specs.Numbers
 use Rattle.grammar.specs.Reading.{Ruling, refusal, answer}
-use Rattle.parser.specs.Reads.{bit}
+use Rattle.numbers.specs.Reads.{bit}
 use Rattle.text_reading.specs.declared.Outcome.the-variants.{Read, Refused}
 use Rattle.text_reading.specs.declared.TextAnswer.{TextAnswer}
 use Rattle.text_reading.specs.declared.Spot.{Spot}

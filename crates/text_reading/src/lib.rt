@@ -1,6 +1,6 @@
 // Reading an expression's text for n goals: refusals 15, 16 and 17 in this sequence, else its order as a graph.
 use graph::Graph;
-use parser::Part;
+use numbers::Part;
 use refusal::Refusal;
 ghost use mathlib.Core.Path.{_≡_};
 ghost use mathlib.Core.Bool.{true};
@@ -41,8 +41,8 @@ fn number_at(text: &[u8], at: usize) -> u32
     requires { ⌜ (at < 2 ^ 63) × (isDigit (getD (now text) at 0) ≡ true) ⌝ }
     ensures { λ r. ⌜ r ≡ valueAt (now (text .entry)) at ⌝ }
 {
-    let b = parser::peek(text, at) as u32;
-    let c = parser::peek(text, at + 1);
+    let b = numbers::peek(text, at) as u32;
+    let c = numbers::peek(text, at + 1);
     if is_digit(c) {
         let d = c as u32;
         10 * (b - 48) + (d - 48)

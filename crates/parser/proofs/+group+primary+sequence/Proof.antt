@@ -4,9 +4,10 @@ use Prim.Native.Nat.{_+_, _-_, _*_}
 use native.Mathlib.Omega.{arith}
 use lib.ListN.{length}
 use borrow.Author.Needs.{needs}
-use Rattle.parser.specs.Reads.{Bare}
+use borrow.Author.Tests.{leb-true, leb-false}
+use Rattle.grammar.proofs.Places.{byte-inside}
+use Rattle.numbers.specs.Reads.{Bare}
 use Rattle.parser.proofs.Tells.{links-sequence, links-group}
-use Rattle.parser.proofs.Runs.{inside}
 use Rattle.parser.proofs.Joins.{Looped, group-member, loop-start, loop-bad, loop-moved, loop-words, loop-more, loop-one, loop-end}
 use Rattle.parser.proofs.Primaries.{pri-deep, pri-bad, pri-shut, pri-left, pri-within}
 use Prim.Native.Nat.{ℕ, _<_}
@@ -21,9 +22,10 @@ use Rattle.parser.proofs.+group+primary+sequence.Lts-primary as primary
 use Rattle.parser.proofs.sequence.Reads as sequence
 use Rattle.parser.proofs.sequence.Kinds as sequence-kinds
 use Rattle.parser.proofs.+group+primary+sequence.Lts-sequence as sequence-lts
-use Rattle.parser.proofs.number.Reads as number-reads
-use Rattle.parser.proofs.peek.Reads as peek-reads
-use Rattle.parser.proofs.spare.Reads as spare-reads
+use Rattle.numbers.proofs.full.Reads as full-reads
+use Rattle.numbers.proofs.number.Reads as number-reads
+use Rattle.numbers.proofs.peek.Reads as peek-reads
+use Rattle.numbers.proofs.spare.Reads as spare-reads
 use Rattle.rows.proofs.link.Reads as link-reads
 use Rattle.parser.proofs.+group+primary+sequence.{statement}
 use Rattle.parser.proofs.+group+primary+sequence.Tie.{close}
@@ -62,7 +64,7 @@ group-Inv-loop text start depth rows₀ at₀ set₀ extra₀ rows at set extra 
 abbrev group-μ-loop : group-lts.MeasureT-loop
 group-μ-loop text start depth rows₀ at₀ set₀ extra₀ rows at set extra = length text - at
 
--- src/lib.rt:212:5
+-- src/lib.rt:58:5
 group-loop-holds : (t : ℕ) → group-lts.Need-loop-holds (
   primary-below t,
   primary.Post,
@@ -71,7 +73,7 @@ group-loop-holds : (t : ℕ) → group-lts.Need-loop-holds (
 ) (group-at t) group.Post group-Inv-loop group-μ-loop
 group-loop-holds t c = loop-start false _ _ _ _ (c .before .pre .1)
 
--- src/lib.rt:213:13
+-- src/lib.rt:59:13
 group-primary-requires : (t : ℕ) → group-lts.Need-primary-requires (
   primary-below t,
   primary.Post,
@@ -80,7 +82,7 @@ group-primary-requires : (t : ℕ) → group-lts.Need-primary-requires (
 ) (group-at t) group.Post group-Inv-loop group-μ-loop
 group-primary-requires t c κs = (omega (arith, c .before .before .before .pre .0, c .before .loop .inv .from), c .before .loop .inv .words)
 
--- src/lib.rt:215:23
+-- src/lib.rt:61:23
 group-enum-known-part : (t : ℕ) → group-lts.Need-enum-known-part (
   primary-below t,
   primary.Post,
@@ -89,7 +91,7 @@ group-enum-known-part : (t : ℕ) → group-lts.Need-enum-known-part (
 ) (group-at t) group.Post group-Inv-loop group-μ-loop
 group-enum-known-part t c = search needs
 
--- src/lib.rt:216:17
+-- src/lib.rt:62:17
 group-returns : (t : ℕ) → group-lts.Need-returns (
   primary-below t,
   primary.Post,
@@ -98,7 +100,7 @@ group-returns : (t : ℕ) → group-lts.Need-returns (
 ) (group-at t) group.Post group-Inv-loop group-μ-loop
 group-returns t c = loop-bad false (c .before .before .before .before .before .before .before .args .text .now) _ _ _ _ _ _ _ (c .before .before .before .before .before .loop .inv) _ _ (c .before .before .before .primary .ensures) _ (c .before .part .given .1) (c .before .before .before .before .before .loop .rows)
 
--- src/lib.rt:218:24
+-- src/lib.rt:64:24
 group-enum-known-part-2 : (t : ℕ) → group-lts.Need-enum-known-part-2 (
   primary-below t,
   primary.Post,
@@ -107,7 +109,7 @@ group-enum-known-part-2 : (t : ℕ) → group-lts.Need-enum-known-part-2 (
 ) (group-at t) group.Post group-Inv-loop group-μ-loop
 group-enum-known-part-2 t c = search needs
 
--- src/lib.rt:223:20
+-- src/lib.rt:69:20
 group-peek-requires : (t : ℕ) → group-lts.Need-peek-requires (
   primary-below t,
   primary.Post,
@@ -116,25 +118,25 @@ group-peek-requires : (t : ℕ) → group-lts.Need-peek-requires (
 ) (group-at t) group.Post group-Inv-loop group-μ-loop
 group-peek-requires t c κs = search needs
 
--- src/lib.rt:224:26
+-- src/lib.rt:70:26
 group-add-at : (t : ℕ) → group-lts.Need-add-at (
   primary-below t,
   primary.Post,
   peek-reads.Asked,
   peek-reads.Learnt,
 ) (group-at t) group.Post group-Inv-loop group-μ-loop
-group-add-at t c = let h = loop-moved false (c .before .before .before .before .before .before .before .before .before .before .args .text .now) _ _ _ _ _ _ _ (c .before .before .before .before .before .before .before .before .loop .inv) _ _ (c .before .before .before .before .before .before .primary .ensures) _ (c .before .before .before .before .part2 .given .1) in let l = inside (c .before .before .before .before .before .before .before .before .before .before .args .text .now) (c .before .before .before .before .part2 .given .0 .0 .end) 38 (omega arith) (sym (c .before .peek .ensures) ∙ c .if1 .taken) in omega arith
+group-add-at t c = let h = loop-moved false (c .before .before .before .before .before .before .before .before .before .before .args .text .now) _ _ _ _ _ _ _ (c .before .before .before .before .before .before .before .before .loop .inv) _ _ (c .before .before .before .before .before .before .primary .ensures) _ (c .before .before .before .before .part2 .given .1) in let l = byte-inside (c .before .before .before .before .before .before .before .before .before .before .args .text .now) (c .before .before .before .before .part2 .given .0 .0 .end) 38 (omega arith) (sym (c .before .peek .ensures) ∙ c .if1 .taken) in omega arith
 
--- src/lib.rt:212:5
+-- src/lib.rt:58:5
 group-loop-less : (t : ℕ) → group-lts.Need-loop-less (
   primary-below t,
   primary.Post,
   peek-reads.Asked,
   peek-reads.Learnt,
 ) (group-at t) group.Post group-Inv-loop group-μ-loop
-group-loop-less t c = let h = loop-moved false (c .before .before .before .before .before .before .before .before .before .before .args .text .now) _ _ _ _ _ _ _ (c .before .before .before .before .before .before .before .before .loop .inv) _ _ (c .before .before .before .before .before .before .primary .ensures) _ (c .before .before .before .before .part2 .given .1) in let l = inside (c .before .before .before .before .before .before .before .before .before .before .args .text .now) (c .before .before .before .before .part2 .given .0 .0 .end) 38 (omega arith) (sym (c .before .peek .ensures) ∙ c .if1 .taken) in omega arith
+group-loop-less t c = let h = loop-moved false (c .before .before .before .before .before .before .before .before .before .before .args .text .now) _ _ _ _ _ _ _ (c .before .before .before .before .before .before .before .before .loop .inv) _ _ (c .before .before .before .before .before .before .primary .ensures) _ (c .before .before .before .before .part2 .given .1) in let l = byte-inside (c .before .before .before .before .before .before .before .before .before .before .args .text .now) (c .before .before .before .before .part2 .given .0 .0 .end) 38 (omega arith) (sym (c .before .peek .ensures) ∙ c .if1 .taken) in omega arith
 
--- src/lib.rt:212:5
+-- src/lib.rt:58:5
 group-loop-again : (t : ℕ) → group-lts.Need-loop-again (
   primary-below t,
   primary.Post,
@@ -143,7 +145,7 @@ group-loop-again : (t : ℕ) → group-lts.Need-loop-again (
 ) (group-at t) group.Post group-Inv-loop group-μ-loop
 group-loop-again t c = loop-more false (c .before .before .before .before .before .before .before .before .before .before .args .text .now) _ _ _ _ _ _ _ (c .before .before .before .before .before .before .before .before .loop .inv) _ _ (c .before .before .before .before .before .before .primary .ensures) _ (c .before .before .before .before .part2 .given .1) _ (links-group (c .before .before .before .before .before .before .before .before .loop .set) (c .before .before .before .before .part2 .given .0 .0 .set) _ (loop-words false (c .before .before .before .before .before .before .before .before .before .before .args .text .now) _ _ _ _ _ _ _ (c .before .before .before .before .before .before .before .before .loop .inv) _ _ (c .before .before .before .before .before .before .primary .ensures) _ (c .before .before .before .before .part2 .given .1))) (sym (c .before .peek .ensures) ∙ c .if1 .taken)
 
--- src/lib.rt:226:21
+-- src/lib.rt:72:21
 group-returns-2 : (t : ℕ) → group-lts.Need-returns-2 (
   primary-below t,
   primary.Post,
@@ -152,7 +154,7 @@ group-returns-2 : (t : ℕ) → group-lts.Need-returns-2 (
 ) (group-at t) group.Post group-Inv-loop group-μ-loop
 group-returns-2 t c = loop-one false (c .before .before .before .before .before .before .before .before .before .before .before .args .text .now) _ _ _ _ _ _ _ (c .before .before .before .before .before .before .before .before .before .loop .inv) _ _ (c .before .before .before .before .before .before .before .primary .ensures) _ (c .before .before .before .before .before .part2 .given .1) _ (c .if2 .taken) (links-group (c .before .before .before .before .before .before .before .before .before .loop .set) (c .before .before .before .before .before .part2 .given .0 .0 .set) _ (loop-words false (c .before .before .before .before .before .before .before .before .before .before .before .args .text .now) _ _ _ _ _ _ _ (c .before .before .before .before .before .before .before .before .before .loop .inv) _ _ (c .before .before .before .before .before .before .before .primary .ensures) _ (c .before .before .before .before .before .part2 .given .1))) (λ e. c .before .if1 .left (c .before .before .peek .ensures ∙ e))
 
--- src/lib.rt:229:21
+-- src/lib.rt:75:21
 group-returns-3 : (t : ℕ) → group-lts.Need-returns-3 (
   primary-below t,
   primary.Post,
@@ -161,10 +163,12 @@ group-returns-3 : (t : ℕ) → group-lts.Need-returns-3 (
 ) (group-at t) group.Post group-Inv-loop group-μ-loop
 group-returns-3 t c = loop-end false (c .before .before .before .before .before .before .before .before .before .before .before .args .text .now) _ _ _ _ _ _ _ (c .before .before .before .before .before .before .before .before .before .loop .inv) _ _ (c .before .before .before .before .before .before .before .primary .ensures) _ (c .before .before .before .before .before .part2 .given .1) _ (c .if2 .left) (links-group (c .before .before .before .before .before .before .before .before .before .loop .set) (c .before .before .before .before .before .part2 .given .0 .0 .set) _ (loop-words false (c .before .before .before .before .before .before .before .before .before .before .before .args .text .now) _ _ _ _ _ _ _ (c .before .before .before .before .before .before .before .before .before .loop .inv) _ _ (c .before .before .before .before .before .before .before .primary .ensures) _ (c .before .before .before .before .before .part2 .given .1))) (λ e. c .before .if1 .left (c .before .before .peek .ensures ∙ e))
 
--- src/lib.rt:246:8
+-- src/lib.rt:92:8
 primary-peek-requires : (t : ℕ) → primary-lts.Need-peek-requires (
   peek-reads.Asked,
   peek-reads.Learnt,
+  full-reads.Asked,
+  full-reads.Learnt,
   spare-reads.Asked,
   spare-reads.Learnt,
   sequence-below t,
@@ -174,10 +178,27 @@ primary-peek-requires : (t : ℕ) → primary-lts.Need-peek-requires (
 ) (primary-at t) primary.Post
 primary-peek-requires t c κs = search needs
 
--- src/lib.rt:248:13
+-- src/lib.rt:93:12
+primary-full-requires : (t : ℕ) → primary-lts.Need-full-requires (
+  peek-reads.Asked,
+  peek-reads.Learnt,
+  full-reads.Asked,
+  full-reads.Learnt,
+  spare-reads.Asked,
+  spare-reads.Learnt,
+  sequence-below t,
+  sequence.Post,
+  number-reads.Asked,
+  number-reads.Learnt,
+) (primary-at t) primary.Post
+primary-full-requires t c κs = search needs
+
+-- src/lib.rt:94:13
 primary-returns : (t : ℕ) → primary-lts.Need-returns (
   peek-reads.Asked,
   peek-reads.Learnt,
+  full-reads.Asked,
+  full-reads.Learnt,
   spare-reads.Asked,
   spare-reads.Learnt,
   sequence-below t,
@@ -185,12 +206,14 @@ primary-returns : (t : ℕ) → primary-lts.Need-returns (
   number-reads.Asked,
   number-reads.Learnt,
 ) (primary-at t) primary.Post
-primary-returns t c = pri-deep (c .before .before .before .before .args .text .now) (c .before .before .before .before .args .at) (c .before .before .before .before .args .depth) (c .before .before .before .before .args .rows .now) (sym (c .before .before .peek .ensures) ∙ c .before .if1 .taken) (c .before .before .before .before .args .rows .now) (c .if2 .taken)
+primary-returns t c = pri-deep (c .before .before .before .before .before .args .text .now) (c .before .before .before .before .before .args .at) (c .before .before .before .before .before .args .depth) (c .before .before .before .before .before .args .rows .now) (sym (c .before .before .before .peek .ensures) ∙ c .before .before .if1 .taken) (c .before .before .before .before .before .args .rows .now) (leb-true 32 _ (sym (c .before .full .ensures) ∙ c .if2 .taken))
 
--- src/lib.rt:250:13
+-- src/lib.rt:96:13
 primary-spare-requires : (t : ℕ) → primary-lts.Need-spare-requires (
   peek-reads.Asked,
   peek-reads.Learnt,
+  full-reads.Asked,
+  full-reads.Learnt,
   spare-reads.Asked,
   spare-reads.Learnt,
   sequence-below t,
@@ -198,12 +221,14 @@ primary-spare-requires : (t : ℕ) → primary-lts.Need-spare-requires (
   number-reads.Asked,
   number-reads.Learnt,
 ) (primary-at t) primary.Post
-primary-spare-requires t c κs = let l = inside (c .before .before .before .before .args .text .now) (c .before .before .before .before .args .at) 40 (omega arith) (sym (c .before .before .peek .ensures) ∙ c .before .if1 .taken) in (omega arith, omega (arith, c .if2 .left))
+primary-spare-requires t c κs = let l = byte-inside (c .before .before .before .before .before .args .text .now) (c .before .before .before .before .before .args .at) 40 (omega arith) (sym (c .before .before .before .peek .ensures) ∙ c .before .before .if1 .taken) in (omega arith, omega (arith, leb-false 32 (c .before .before .before .before .before .args .depth) (sym (c .before .full .ensures) ∙ c .if2 .left)))
 
--- src/lib.rt:252:29
+-- src/lib.rt:98:29
 primary-enum-known-bare : (t : ℕ) → primary-lts.Need-enum-known-bare (
   peek-reads.Asked,
   peek-reads.Learnt,
+  full-reads.Asked,
+  full-reads.Learnt,
   spare-reads.Asked,
   spare-reads.Learnt,
   sequence-below t,
@@ -213,10 +238,12 @@ primary-enum-known-bare : (t : ℕ) → primary-lts.Need-enum-known-bare (
 ) (primary-at t) primary.Post
 primary-enum-known-bare t c = search needs
 
--- src/lib.rt:253:17
+-- src/lib.rt:99:17
 primary-returns-2 : (t : ℕ) → primary-lts.Need-returns-2 (
   peek-reads.Asked,
   peek-reads.Learnt,
+  full-reads.Asked,
+  full-reads.Learnt,
   spare-reads.Asked,
   spare-reads.Learnt,
   sequence-below t,
@@ -224,11 +251,13 @@ primary-returns-2 : (t : ℕ) → primary-lts.Need-returns-2 (
   number-reads.Asked,
   number-reads.Learnt,
 ) (primary-at t) primary.Post
-primary-returns-2 t c = subst (λ z. Bare (c .before .before .before .before .before .before .before .before .args .text .now) (c .before .before .before .before .before .before .before .before .args .at) (c .before .before .before .before .before .before .before .before .args .depth) z) (c .before .bare .given .1) (c .before .before .before .spare .ensures) (c .before .before .before .before .before .before .before .before .args .rows .now) (c .before .before .before .before .before .before .before .before .pre .1)
+primary-returns-2 t c = subst (λ z. Bare (c .before .before .before .before .before .before .before .before .before .args .text .now) (c .before .before .before .before .before .before .before .before .before .args .at) (c .before .before .before .before .before .before .before .before .before .args .depth) z) (c .before .bare .given .1) (c .before .before .before .spare .ensures) (c .before .before .before .before .before .before .before .before .before .args .rows .now) (c .before .before .before .before .before .before .before .before .before .pre .1)
 
 primary-enum-told : (t : ℕ) → primary-lts.Need-enum-told (
   peek-reads.Asked,
   peek-reads.Learnt,
+  full-reads.Asked,
+  full-reads.Learnt,
   spare-reads.Asked,
   spare-reads.Learnt,
   sequence-below t,
@@ -238,10 +267,12 @@ primary-enum-told : (t : ℕ) → primary-lts.Need-enum-told (
 ) (primary-at t) primary.Post
 primary-enum-told t c = search needs
 
--- src/lib.rt:257:35
+-- src/lib.rt:103:35
 primary-add-sequence : (t : ℕ) → primary-lts.Need-add-sequence (
   peek-reads.Asked,
   peek-reads.Learnt,
+  full-reads.Asked,
+  full-reads.Learnt,
   spare-reads.Asked,
   spare-reads.Learnt,
   sequence-below t,
@@ -249,12 +280,14 @@ primary-add-sequence : (t : ℕ) → primary-lts.Need-add-sequence (
   number-reads.Asked,
   number-reads.Learnt,
 ) (primary-at t) primary.Post
-primary-add-sequence t c = let l = inside (c .before .before .before .before .before .before .before .args .text .now) (c .before .before .before .before .before .before .before .args .at) 40 (omega arith) (sym (c .before .before .before .before .before .peek .ensures) ∙ c .before .before .before .before .if1 .taken) in omega arith
+primary-add-sequence t c = let l = byte-inside (c .before .before .before .before .before .before .before .before .args .text .now) (c .before .before .before .before .before .before .before .before .args .at) 40 (omega arith) (sym (c .before .before .before .before .before .before .peek .ensures) ∙ c .before .before .before .before .before .if1 .taken) in omega arith
 
--- src/lib.rt:257:43
+-- src/lib.rt:103:43
 primary-add-sequence-2 : (t : ℕ) → primary-lts.Need-add-sequence-2 (
   peek-reads.Asked,
   peek-reads.Learnt,
+  full-reads.Asked,
+  full-reads.Learnt,
   spare-reads.Asked,
   spare-reads.Learnt,
   sequence-below t,
@@ -262,12 +295,14 @@ primary-add-sequence-2 : (t : ℕ) → primary-lts.Need-add-sequence-2 (
   number-reads.Asked,
   number-reads.Learnt,
 ) (primary-at t) primary.Post
-primary-add-sequence-2 t c = search needs
+primary-add-sequence-2 t c = omega (arith, leb-false 32 (c .before .before .before .before .before .before .before .before .args .depth) (sym (c .before .before .before .before .full .ensures) ∙ c .before .before .before .if2 .left))
 
--- src/lib.rt:257:13
+-- src/lib.rt:103:13
 primary-sequence-requires : (t : ℕ) → primary-lts.Need-sequence-requires (
   peek-reads.Asked,
   peek-reads.Learnt,
+  full-reads.Asked,
+  full-reads.Learnt,
   spare-reads.Asked,
   spare-reads.Learnt,
   sequence-below t,
@@ -275,12 +310,14 @@ primary-sequence-requires : (t : ℕ) → primary-lts.Need-sequence-requires (
   number-reads.Asked,
   number-reads.Learnt,
 ) (primary-at t) primary.Post
-primary-sequence-requires t c κs = let l = inside (c .before .before .before .before .before .before .before .before .args .text .now) (c .before .before .before .before .before .before .before .before .args .at) 40 (omega arith) (sym (c .before .before .before .before .before .before .peek .ensures) ∙ c .before .before .before .before .before .if1 .taken) in (omega arith, c .before .before .before .before .before .before .before .before .pre .1)
+primary-sequence-requires t c κs = let l = byte-inside (c .before .before .before .before .before .before .before .before .before .args .text .now) (c .before .before .before .before .before .before .before .before .before .args .at) 40 (omega arith) (sym (c .before .before .before .before .before .before .before .peek .ensures) ∙ c .before .before .before .before .before .before .if1 .taken) in (omega arith, c .before .before .before .before .before .before .before .before .before .pre .1)
 
--- src/lib.rt:259:23
+-- src/lib.rt:105:23
 primary-enum-known-part : (t : ℕ) → primary-lts.Need-enum-known-part (
   peek-reads.Asked,
   peek-reads.Learnt,
+  full-reads.Asked,
+  full-reads.Learnt,
   spare-reads.Asked,
   spare-reads.Learnt,
   sequence-below t,
@@ -290,10 +327,12 @@ primary-enum-known-part : (t : ℕ) → primary-lts.Need-enum-known-part (
 ) (primary-at t) primary.Post
 primary-enum-known-part t c = search needs
 
--- src/lib.rt:260:24
+-- src/lib.rt:106:24
 primary-enum-known-part-2 : (t : ℕ) → primary-lts.Need-enum-known-part-2 (
   peek-reads.Asked,
   peek-reads.Learnt,
+  full-reads.Asked,
+  full-reads.Learnt,
   spare-reads.Asked,
   spare-reads.Learnt,
   sequence-below t,
@@ -303,10 +342,12 @@ primary-enum-known-part-2 : (t : ℕ) → primary-lts.Need-enum-known-part-2 (
 ) (primary-at t) primary.Post
 primary-enum-known-part-2 t c = search needs
 
--- src/lib.rt:262:29
+-- src/lib.rt:108:29
 primary-add-after : (t : ℕ) → primary-lts.Need-add-after (
   peek-reads.Asked,
   peek-reads.Learnt,
+  full-reads.Asked,
+  full-reads.Learnt,
   spare-reads.Asked,
   spare-reads.Learnt,
   sequence-below t,
@@ -314,12 +355,14 @@ primary-add-after : (t : ℕ) → primary-lts.Need-add-after (
   number-reads.Asked,
   number-reads.Learnt,
 ) (primary-at t) primary.Post
-primary-add-after t c = let l = pri-within (c .before .before .before .before .before .before .before .before .before .before .before .before .args .text .now) _ _ _ (sym (c .before .before .before .before .before .before .before .before .before .before .peek .ensures) ∙ c .before .before .before .before .before .before .before .before .before .if1 .taken) (c .before .before .before .before .before .before .before .before .if2 .left) _ _ (c .before .before .before .sequence .ensures) _ (c .before .part2 .given .1) in omega arith
+primary-add-after t c = let l = pri-within (c .before .before .before .before .before .before .before .before .before .before .before .before .before .args .text .now) _ _ _ (sym (c .before .before .before .before .before .before .before .before .before .before .before .peek .ensures) ∙ c .before .before .before .before .before .before .before .before .before .before .if1 .taken) (leb-false 32 _ (sym (c .before .before .before .before .before .before .before .before .before .full .ensures) ∙ c .before .before .before .before .before .before .before .before .if2 .left)) _ _ (c .before .before .before .sequence .ensures) _ (c .before .part2 .given .1) in omega arith
 
--- src/lib.rt:263:20
+-- src/lib.rt:109:20
 primary-peek-requires-2 : (t : ℕ) → primary-lts.Need-peek-requires-2 (
   peek-reads.Asked,
   peek-reads.Learnt,
+  full-reads.Asked,
+  full-reads.Learnt,
   spare-reads.Asked,
   spare-reads.Learnt,
   sequence-below t,
@@ -329,10 +372,12 @@ primary-peek-requires-2 : (t : ℕ) → primary-lts.Need-peek-requires-2 (
 ) (primary-at t) primary.Post
 primary-peek-requires-2 t c κs = search needs
 
--- src/lib.rt:279:9
+-- src/lib.rt:125:9
 primary-number-requires : (t : ℕ) → primary-lts.Need-number-requires (
   peek-reads.Asked,
   peek-reads.Learnt,
+  full-reads.Asked,
+  full-reads.Learnt,
   spare-reads.Asked,
   spare-reads.Learnt,
   sequence-below t,
@@ -342,10 +387,12 @@ primary-number-requires : (t : ℕ) → primary-lts.Need-number-requires (
 ) (primary-at t) primary.Post
 primary-number-requires t c κs = λ e. c .if1 .left (c .before .peek .ensures ∙ e)
 
--- src/lib.rt:242:1
+-- src/lib.rt:88:1
 primary-returns-3 : (t : ℕ) → primary-lts.Need-returns-3 (
   peek-reads.Asked,
   peek-reads.Learnt,
+  full-reads.Asked,
+  full-reads.Learnt,
   spare-reads.Asked,
   spare-reads.Learnt,
   sequence-below t,
@@ -353,12 +400,14 @@ primary-returns-3 : (t : ℕ) → primary-lts.Need-returns-3 (
   number-reads.Asked,
   number-reads.Learnt,
 ) (primary-at t) primary.Post
-primary-returns-3 t c = pri-bad (c .before .before .before .before .before .before .before .before .before .before .before .before .args .text .now) _ _ _ (sym (c .before .before .before .before .before .before .before .before .before .before .peek .ensures) ∙ c .before .before .before .before .before .before .before .before .before .if1 .taken) (c .before .before .before .before .before .before .before .before .if2 .left) _ _ (c .before .before .before .sequence .ensures) _ (c .before .part .given .1)
+primary-returns-3 t c = pri-bad (c .before .before .before .before .before .before .before .before .before .before .before .before .before .args .text .now) _ _ _ (sym (c .before .before .before .before .before .before .before .before .before .before .before .peek .ensures) ∙ c .before .before .before .before .before .before .before .before .before .before .if1 .taken) (leb-false 32 _ (sym (c .before .before .before .before .before .before .before .before .before .full .ensures) ∙ c .before .before .before .before .before .before .before .before .if2 .left)) _ _ (c .before .before .before .sequence .ensures) _ (c .before .part .given .1)
 
--- src/lib.rt:242:1
+-- src/lib.rt:88:1
 primary-returns-4 : (t : ℕ) → primary-lts.Need-returns-4 (
   peek-reads.Asked,
   peek-reads.Learnt,
+  full-reads.Asked,
+  full-reads.Learnt,
   spare-reads.Asked,
   spare-reads.Learnt,
   sequence-below t,
@@ -366,12 +415,14 @@ primary-returns-4 : (t : ℕ) → primary-lts.Need-returns-4 (
   number-reads.Asked,
   number-reads.Learnt,
 ) (primary-at t) primary.Post
-primary-returns-4 t c = pri-shut (c .before .before .before .before .before .before .before .before .before .before .before .before .before .before .args .text .now) _ _ _ (sym (c .before .before .before .before .before .before .before .before .before .before .before .before .peek .ensures) ∙ c .before .before .before .before .before .before .before .before .before .before .before .if1 .taken) (c .before .before .before .before .before .before .before .before .before .before .if2 .left) _ _ (c .before .before .before .before .before .sequence .ensures) _ (c .before .before .before .part2 .given .1) (sym (c .before .peek2 .ensures) ∙ c .if3 .taken)
+primary-returns-4 t c = pri-shut (c .before .before .before .before .before .before .before .before .before .before .before .before .before .before .before .args .text .now) _ _ _ (sym (c .before .before .before .before .before .before .before .before .before .before .before .before .before .peek .ensures) ∙ c .before .before .before .before .before .before .before .before .before .before .before .before .if1 .taken) (leb-false 32 _ (sym (c .before .before .before .before .before .before .before .before .before .before .before .full .ensures) ∙ c .before .before .before .before .before .before .before .before .before .before .if2 .left)) _ _ (c .before .before .before .before .before .sequence .ensures) _ (c .before .before .before .part2 .given .1) (sym (c .before .peek2 .ensures) ∙ c .if3 .taken)
 
--- src/lib.rt:242:1
+-- src/lib.rt:88:1
 primary-returns-5 : (t : ℕ) → primary-lts.Need-returns-5 (
   peek-reads.Asked,
   peek-reads.Learnt,
+  full-reads.Asked,
+  full-reads.Learnt,
   spare-reads.Asked,
   spare-reads.Learnt,
   sequence-below t,
@@ -379,12 +430,14 @@ primary-returns-5 : (t : ℕ) → primary-lts.Need-returns-5 (
   number-reads.Asked,
   number-reads.Learnt,
 ) (primary-at t) primary.Post
-primary-returns-5 t c = pri-left (c .before .before .before .before .before .before .before .before .before .before .before .before .before .before .args .text .now) _ _ _ (sym (c .before .before .before .before .before .before .before .before .before .before .before .before .peek .ensures) ∙ c .before .before .before .before .before .before .before .before .before .before .before .if1 .taken) (c .before .before .before .before .before .before .before .before .before .before .if2 .left) _ _ (c .before .before .before .before .before .sequence .ensures) _ (c .before .before .before .part2 .given .1) (λ e. c .if3 .left (c .before .peek2 .ensures ∙ e))
+primary-returns-5 t c = pri-left (c .before .before .before .before .before .before .before .before .before .before .before .before .before .before .before .args .text .now) _ _ _ (sym (c .before .before .before .before .before .before .before .before .before .before .before .before .before .peek .ensures) ∙ c .before .before .before .before .before .before .before .before .before .before .before .before .if1 .taken) (leb-false 32 _ (sym (c .before .before .before .before .before .before .before .before .before .before .before .full .ensures) ∙ c .before .before .before .before .before .before .before .before .before .before .if2 .left)) _ _ (c .before .before .before .before .before .sequence .ensures) _ (c .before .before .before .part2 .given .1) (λ e. c .if3 .left (c .before .peek2 .ensures ∙ e))
 
--- src/lib.rt:242:1
+-- src/lib.rt:88:1
 primary-returns-6 : (t : ℕ) → primary-lts.Need-returns-6 (
   peek-reads.Asked,
   peek-reads.Learnt,
+  full-reads.Asked,
+  full-reads.Learnt,
   spare-reads.Asked,
   spare-reads.Learnt,
   sequence-below t,
@@ -400,7 +453,7 @@ sequence-Inv-loop text start depth rows₀ at₀ set₀ extra₀ rows at set ext
 abbrev sequence-μ-loop : sequence-lts.MeasureT-loop
 sequence-μ-loop text start depth rows₀ at₀ set₀ extra₀ rows at set extra = length text - at
 
--- src/lib.rt:174:5
+-- src/lib.rt:20:5
 sequence-loop-holds : (t : ℕ) → sequence-lts.Need-loop-holds (
   group-below t,
   group.Post,
@@ -411,7 +464,7 @@ sequence-loop-holds : (t : ℕ) → sequence-lts.Need-loop-holds (
 ) (sequence-at t) sequence.Post sequence-Inv-loop sequence-μ-loop
 sequence-loop-holds t c = loop-start true _ _ _ _ (c .before .pre .1)
 
--- src/lib.rt:175:13
+-- src/lib.rt:21:13
 sequence-group-requires : (t : ℕ) → sequence-lts.Need-group-requires (
   group-below t,
   group.Post,
@@ -422,7 +475,7 @@ sequence-group-requires : (t : ℕ) → sequence-lts.Need-group-requires (
 ) (sequence-at t) sequence.Post sequence-Inv-loop sequence-μ-loop
 sequence-group-requires t c κs = (omega (arith, c .before .before .before .pre .0, c .before .loop .inv .from), c .before .loop .inv .words)
 
--- src/lib.rt:177:23
+-- src/lib.rt:23:23
 sequence-enum-known-part : (t : ℕ) → sequence-lts.Need-enum-known-part (
   group-below t,
   group.Post,
@@ -433,7 +486,7 @@ sequence-enum-known-part : (t : ℕ) → sequence-lts.Need-enum-known-part (
 ) (sequence-at t) sequence.Post sequence-Inv-loop sequence-μ-loop
 sequence-enum-known-part t c = search needs
 
--- src/lib.rt:178:17
+-- src/lib.rt:24:17
 sequence-returns : (t : ℕ) → sequence-lts.Need-returns (
   group-below t,
   group.Post,
@@ -444,7 +497,7 @@ sequence-returns : (t : ℕ) → sequence-lts.Need-returns (
 ) (sequence-at t) sequence.Post sequence-Inv-loop sequence-μ-loop
 sequence-returns t c = loop-bad true (c .before .before .before .before .before .before .before .args .text .now) _ _ _ _ _ _ _ (c .before .before .before .before .before .loop .inv) _ _ (group-member (c .before .before .before .before .before .before .before .args .text .now) (c .before .before .before .before .before .loop .at) (c .before .before .before .before .before .before .before .args .depth) (c .before .before .before .before .before .loop .rows) (c .before .before .before .group .result) _ (c .before .before .before .group .ensures)) _ (c .before .part .given .1) (c .before .before .before .before .before .loop .rows)
 
--- src/lib.rt:180:24
+-- src/lib.rt:26:24
 sequence-enum-known-part-2 : (t : ℕ) → sequence-lts.Need-enum-known-part-2 (
   group-below t,
   group.Post,
@@ -455,7 +508,7 @@ sequence-enum-known-part-2 : (t : ℕ) → sequence-lts.Need-enum-known-part-2 (
 ) (sequence-at t) sequence.Post sequence-Inv-loop sequence-μ-loop
 sequence-enum-known-part-2 t c = search needs
 
--- src/lib.rt:183:17
+-- src/lib.rt:29:17
 sequence-link-requires : (t : ℕ) → sequence-lts.Need-link-requires (
   group-below t,
   group.Post,
@@ -466,7 +519,7 @@ sequence-link-requires : (t : ℕ) → sequence-lts.Need-link-requires (
 ) (sequence-at t) sequence.Post sequence-Inv-loop sequence-μ-loop
 sequence-link-requires t c κs = (loop-words true (c .before .before .before .before .before .before .before .before .args .text .now) _ _ _ _ _ _ _ (c .before .before .before .before .before .before .loop .inv) _ _ (group-member (c .before .before .before .before .before .before .before .before .args .text .now) (c .before .before .before .before .before .before .loop .at) (c .before .before .before .before .before .before .before .before .args .depth) (c .before .before .before .before .before .before .loop .rows) (c .before .before .before .before .group .result) _ (c .before .before .before .before .group .ensures)) _ (c .before .before .part2 .given .1))
 
--- src/lib.rt:186:20
+-- src/lib.rt:32:20
 sequence-peek-requires : (t : ℕ) → sequence-lts.Need-peek-requires (
   group-below t,
   group.Post,
@@ -477,7 +530,7 @@ sequence-peek-requires : (t : ℕ) → sequence-lts.Need-peek-requires (
 ) (sequence-at t) sequence.Post sequence-Inv-loop sequence-μ-loop
 sequence-peek-requires t c κs = search needs
 
--- src/lib.rt:187:26
+-- src/lib.rt:33:26
 sequence-add-at : (t : ℕ) → sequence-lts.Need-add-at (
   group-below t,
   group.Post,
@@ -486,9 +539,9 @@ sequence-add-at : (t : ℕ) → sequence-lts.Need-add-at (
   peek-reads.Asked,
   peek-reads.Learnt,
 ) (sequence-at t) sequence.Post sequence-Inv-loop sequence-μ-loop
-sequence-add-at t c = let h = loop-moved true (c .before .before .before .before .before .before .before .before .before .before .before .before .args .text .now) _ _ _ _ _ _ _ (c .before .before .before .before .before .before .before .before .before .before .loop .inv) _ _ (group-member (c .before .before .before .before .before .before .before .before .before .before .before .before .args .text .now) (c .before .before .before .before .before .before .before .before .before .before .loop .at) (c .before .before .before .before .before .before .before .before .before .before .before .before .args .depth) (c .before .before .before .before .before .before .before .before .before .before .loop .rows) (c .before .before .before .before .before .before .before .before .group .result) _ (c .before .before .before .before .before .before .before .before .group .ensures)) _ (c .before .before .before .before .before .before .part2 .given .1) in let l = inside (c .before .before .before .before .before .before .before .before .before .before .before .before .args .text .now) (c .before .before .before .before .before .before .part2 .given .0 .0 .end) 44 (omega arith) (sym (c .before .peek .ensures) ∙ c .if1 .taken) in omega arith
+sequence-add-at t c = let h = loop-moved true (c .before .before .before .before .before .before .before .before .before .before .before .before .args .text .now) _ _ _ _ _ _ _ (c .before .before .before .before .before .before .before .before .before .before .loop .inv) _ _ (group-member (c .before .before .before .before .before .before .before .before .before .before .before .before .args .text .now) (c .before .before .before .before .before .before .before .before .before .before .loop .at) (c .before .before .before .before .before .before .before .before .before .before .before .before .args .depth) (c .before .before .before .before .before .before .before .before .before .before .loop .rows) (c .before .before .before .before .before .before .before .before .group .result) _ (c .before .before .before .before .before .before .before .before .group .ensures)) _ (c .before .before .before .before .before .before .part2 .given .1) in let l = byte-inside (c .before .before .before .before .before .before .before .before .before .before .before .before .args .text .now) (c .before .before .before .before .before .before .part2 .given .0 .0 .end) 44 (omega arith) (sym (c .before .peek .ensures) ∙ c .if1 .taken) in omega arith
 
--- src/lib.rt:174:5
+-- src/lib.rt:20:5
 sequence-loop-less : (t : ℕ) → sequence-lts.Need-loop-less (
   group-below t,
   group.Post,
@@ -497,9 +550,9 @@ sequence-loop-less : (t : ℕ) → sequence-lts.Need-loop-less (
   peek-reads.Asked,
   peek-reads.Learnt,
 ) (sequence-at t) sequence.Post sequence-Inv-loop sequence-μ-loop
-sequence-loop-less t c = let h = loop-moved true (c .before .before .before .before .before .before .before .before .before .before .before .before .args .text .now) _ _ _ _ _ _ _ (c .before .before .before .before .before .before .before .before .before .before .loop .inv) _ _ (group-member (c .before .before .before .before .before .before .before .before .before .before .before .before .args .text .now) (c .before .before .before .before .before .before .before .before .before .before .loop .at) (c .before .before .before .before .before .before .before .before .before .before .before .before .args .depth) (c .before .before .before .before .before .before .before .before .before .before .loop .rows) (c .before .before .before .before .before .before .before .before .group .result) _ (c .before .before .before .before .before .before .before .before .group .ensures)) _ (c .before .before .before .before .before .before .part2 .given .1) in let l = inside (c .before .before .before .before .before .before .before .before .before .before .before .before .args .text .now) (c .before .before .before .before .before .before .part2 .given .0 .0 .end) 44 (omega arith) (sym (c .before .peek .ensures) ∙ c .if1 .taken) in omega arith
+sequence-loop-less t c = let h = loop-moved true (c .before .before .before .before .before .before .before .before .before .before .before .before .args .text .now) _ _ _ _ _ _ _ (c .before .before .before .before .before .before .before .before .before .before .loop .inv) _ _ (group-member (c .before .before .before .before .before .before .before .before .before .before .before .before .args .text .now) (c .before .before .before .before .before .before .before .before .before .before .loop .at) (c .before .before .before .before .before .before .before .before .before .before .before .before .args .depth) (c .before .before .before .before .before .before .before .before .before .before .loop .rows) (c .before .before .before .before .before .before .before .before .group .result) _ (c .before .before .before .before .before .before .before .before .group .ensures)) _ (c .before .before .before .before .before .before .part2 .given .1) in let l = byte-inside (c .before .before .before .before .before .before .before .before .before .before .before .before .args .text .now) (c .before .before .before .before .before .before .part2 .given .0 .0 .end) 44 (omega arith) (sym (c .before .peek .ensures) ∙ c .if1 .taken) in omega arith
 
--- src/lib.rt:174:5
+-- src/lib.rt:20:5
 sequence-loop-again : (t : ℕ) → sequence-lts.Need-loop-again (
   group-below t,
   group.Post,
@@ -510,7 +563,7 @@ sequence-loop-again : (t : ℕ) → sequence-lts.Need-loop-again (
 ) (sequence-at t) sequence.Post sequence-Inv-loop sequence-μ-loop
 sequence-loop-again t c = loop-more true (c .before .before .before .before .before .before .before .before .before .before .before .before .args .text .now) _ _ _ _ _ _ _ (c .before .before .before .before .before .before .before .before .before .before .loop .inv) _ _ (group-member (c .before .before .before .before .before .before .before .before .before .before .before .before .args .text .now) (c .before .before .before .before .before .before .before .before .before .before .loop .at) (c .before .before .before .before .before .before .before .before .before .before .before .before .args .depth) (c .before .before .before .before .before .before .before .before .before .before .loop .rows) (c .before .before .before .before .before .before .before .before .group .result) _ (c .before .before .before .before .before .before .before .before .group .ensures)) _ (c .before .before .before .before .before .before .part2 .given .1) _ (links-sequence _ _ _ _ (c .before .before .before .link .ensures)) (sym (c .before .peek .ensures) ∙ c .if1 .taken)
 
--- src/lib.rt:189:21
+-- src/lib.rt:35:21
 sequence-returns-2 : (t : ℕ) → sequence-lts.Need-returns-2 (
   group-below t,
   group.Post,
@@ -521,7 +574,7 @@ sequence-returns-2 : (t : ℕ) → sequence-lts.Need-returns-2 (
 ) (sequence-at t) sequence.Post sequence-Inv-loop sequence-μ-loop
 sequence-returns-2 t c = loop-one true (c .before .before .before .before .before .before .before .before .before .before .before .before .before .args .text .now) _ _ _ _ _ _ _ (c .before .before .before .before .before .before .before .before .before .before .before .loop .inv) _ _ (group-member (c .before .before .before .before .before .before .before .before .before .before .before .before .before .args .text .now) (c .before .before .before .before .before .before .before .before .before .before .before .loop .at) (c .before .before .before .before .before .before .before .before .before .before .before .before .before .args .depth) (c .before .before .before .before .before .before .before .before .before .before .before .loop .rows) (c .before .before .before .before .before .before .before .before .before .group .result) _ (c .before .before .before .before .before .before .before .before .before .group .ensures)) _ (c .before .before .before .before .before .before .before .part2 .given .1) _ (c .if2 .taken) (links-sequence _ _ _ _ (c .before .before .before .before .link .ensures)) (λ e. c .before .if1 .left (c .before .before .peek .ensures ∙ e))
 
--- src/lib.rt:192:21
+-- src/lib.rt:38:21
 sequence-returns-3 : (t : ℕ) → sequence-lts.Need-returns-3 (
   group-below t,
   group.Post,
@@ -557,6 +610,8 @@ pub +group+primary+sequence-spec : {M : Type 1} → statement M
     (λ t. primary-lts.spec (
       peek-reads.Asked,
       peek-reads.Learnt,
+      full-reads.Asked,
+      full-reads.Learnt,
       spare-reads.Asked,
       spare-reads.Learnt,
       sequence-below t,
@@ -567,6 +622,7 @@ pub +group+primary+sequence-spec : {M : Type 1} → statement M
     (primary-at t)
     primary.Post
     (primary-peek-requires t)
+    (primary-full-requires t)
     (primary-returns t)
     (primary-spare-requires t)
     (primary-enum-known-bare t)

@@ -9,7 +9,7 @@ use Rattle.text_reading.proofs.number_at.Statement.{statement}
 use Rattle.text_reading.proofs.number_at.Tie as tie
 use Rattle.text_reading.proofs.number_at.Reads as reads
 use Rattle.text_reading.proofs.number_at.Lts as lts
-use Rattle.parser.proofs.peek.Reads as peek-reads
+use Rattle.numbers.proofs.peek.Reads as peek-reads
 use Rattle.text_reading.proofs.is_digit.Reads as is-digit-reads
 
 -- src/lib.rt:44:13

@@ -2,16 +2,16 @@ use mathlib.Core.Path.{sym, ap}
 use mathlib.Core.Bool.{cond}
 use Prim.Native.Nat.{ℕ}
 use borrow.Author.Tests.{le-leb, lt-leb}
-use Rattle.parser.proofs.extra_of.Statement.{statement}
-use Rattle.parser.proofs.extra_of.Tie as tie
-use Rattle.parser.proofs.extra_of.Reads as reads
-use Rattle.parser.proofs.extra_of.Lts as lts
+use Rattle.numbers.proofs.extra_of.Statement.{statement}
+use Rattle.numbers.proofs.extra_of.Tie as tie
+use Rattle.numbers.proofs.extra_of.Reads as reads
+use Rattle.numbers.proofs.extra_of.Lts as lts
 
--- src/lib.rt:55:1
+-- src/lib.rt:61:1
 returns : tie.Need-returns
 returns c = sym (ap (λ b. cond {A = ℕ} b 0 1) (le-leb (c .before .args .v) 32 (c .if1 .taken)))
 
--- src/lib.rt:55:1
+-- src/lib.rt:61:1
 returns-2 : tie.Need-returns-2
 returns-2 c = sym (ap (λ b. cond {A = ℕ} b 0 1) (lt-leb (c .before .args .v) 32 (c .if1 .left)))
 

@@ -7,15 +7,13 @@ use Prim.Native.Nat.{ℕ, zero, suc, _+_, _<_, _≤_}
 use native.Mathlib.Omega.{arith}
 use native.Mathlib.Decide.{decLt}
 use native.Mathlib.Numerals.{add-one}
-use lib.ListN.{length, getD, drop, drop-of-length-le, List·getD-eq-default}
+use lib.ListN.{length, getD, drop, drop-of-length-le}
 use Rattle.grammar.specs.Reader.{State, refused, ends, onward, run}
 use Rattle.grammar.proofs.Sound.{next}
-use Rattle.parser.specs.Reads.{Comes, Refuses}
+use Rattle.grammar.proofs.Places.{byte-inside}
+use Rattle.numbers.specs.Reads.{Comes, Refuses}
 
 -- ---- the text from a place on
-pub inside : (s : List ℕ) (i v : ℕ) → 0 < v → getD s i 0 ≡ v → i < length s
-inside s i v pos e = dite (decLt i (length s)) (λ h. h) (λ h. absurd (omega (arith, List·getD-eq-default s 0 {n = i} (omega arith))))
-
 pub drop-at : (s : List ℕ) (e : ℕ) → e < length s → drop e s ≡ getD s e 0 ∷ drop (suc e) s
 drop-at [] e h = absurd (omega arith)
 drop-at (x ∷ s) zero h = refl
@@ -31,7 +29,7 @@ module _ (s : List ℕ) (e : ℕ) where
   -- one byte is taken
   pub takes : (b : ℕ) (x y : State) → 0 < b → getD s e 0 ≡ b → next x b ≡ some y → Comes s e x (e + 1) y
   takes b x y pos q n =
-      rw (add-one e) (run-at x (inside s e b pos q) ∙ ap (λ o. onward o e (λ r. run (drop (suc e) s) (suc e) r)) (ap (λ c. next x c) q ∙ n))
+      rw (add-one e) (run-at x (byte-inside s e b pos q) ∙ ap (λ o. onward o e (λ r. run (drop (suc e) s) (suc e) r)) (ap (λ c. next x c) q ∙ n))
 
   -- none is
   pub stuck : (x : State) → next x (getD s e 0) ≡ none → ends (x .outer) (x .groups) (x .primaries) (x .phase) e ≡ refused e → Refuses s e x e

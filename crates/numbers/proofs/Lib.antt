@@ -1,0 +1,3 @@
+pub mod Runs
+pub mod Digits
+pub mod Wraps
