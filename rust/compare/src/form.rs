@@ -183,16 +183,20 @@ impl<S: Sink> Splitter<'_, S> {
 #[cold]
 fn refuse(order: &Order) -> Refusal {
     let after = &order.rows;
+    let leading = (0..order.goals).fold(0, |set, goal| set | u32::from(after[goal] != 0) << goal);
     for a in 0..order.goals {
         if after[a] == 0 {
             continue;
         }
-        for b in 0..order.goals {
+        let mut candidates = leading & !after[a] & !(1 << a);
+        while candidates != 0 {
+            let b = lowest(candidates);
+            candidates &= candidates - 1;
             let (both, only) = (after[a] & after[b], after[b] & !after[a]);
-            if both == 0 || only == 0 || after[a] >> b & 1 == 1 || after[b] >> a & 1 == 1 {
+            if both == 0 || only == 0 || after[b] >> a & 1 == 1 {
                 continue;
             }
-            // What is after every candidate for d can be no c. (a = b leaves none.)
+            // What is after every candidate for d can be no c.
             let mut after_all = both;
             let mut left = only;
             while left != 0 && after_all != 0 {

@@ -76,13 +76,18 @@ fn after_from(clause: &Clause, from: usize) -> [u32; GOAL_LIMIT] {
         rows[goal & 31] = if clause.pairs == 0 {
             chain(ties.active, goal)
         } else {
-            // Waits lead from lower to higher numbers, so the later rows are closed already.
-            let mut row = waiting(&ties, goal, clause.goals);
-            let mut left = row;
+            // Waits lead from lower to higher numbers, so the later rows are closed already,
+            // and what a waiting goal is before need not be judged.
+            let tie = ties.ties[goal & 31];
+            let mut row = 0;
+            let mut left = ties.active & (u32::MAX << goal << 1);
             while left != 0 {
-                let next = rows[left.trailing_zeros() as usize];
-                row |= next;
-                left &= (left - 1) & !next;
+                let next = left.trailing_zeros() as usize;
+                left &= left - 1;
+                if ties.free[next] & tie != 0 {
+                    row |= rows[next] | 1 << next;
+                    left &= !rows[next];
+                }
             }
             row
         };
@@ -113,15 +118,14 @@ pub fn before(clause: &Clause) -> [u32; GOAL_LIMIT] {
             if free != 0 { ties.active & first_goals(goal) } else { 0 }
         } else {
             let mut row = 0u32;
-            for earlier in 0..goal {
-                row |= ((ties.ties[earlier & 31] & free != 0) as u32) << earlier;
-            }
-            let mut left = row;
+            let mut left = if free != 0 { ties.active & first_goals(goal) } else { 0 };
             while left != 0 {
                 let last = 31 - left.leading_zeros() as usize;
-                let next = rows[last];
-                row |= next;
-                left &= !(1 << last | next);
+                left ^= 1 << last;
+                if ties.ties[last] & free != 0 {
+                    row |= rows[last] | 1 << last;
+                    left &= !rows[last];
+                }
             }
             row
         };
