@@ -30,14 +30,14 @@ use Rattle.expression.specs.Form.{form}
 use Rattle.expression.specs.Restore.{restore}
 use Rattle.expression.specs.Search.{Four, firstN}
 use Rattle.expression.specs.Text.{text}
-use Rattle.expression.proofs.Theorems.{has-order-is, form-is, form-unique, no-n-is, order-strict}
+use Rattle.expression.proofs.Theorems.{has-order-is, form-unique, order-strict}
 use Rattle.order.specs.Order as O
 use Rattle.order.specs.Order.{before}
 use Rattle.order.proofs.Theorems.{before-is, before-order, before-closed}
 use Rattle.form.specs.Form.{Plan, noForm, written, settled, plan}
 use Rattle.form.specs.Demand.{HasForm, Demand}
-use Rattle.form.proofs.Plans.{plan-fine, settled-none, settled-some}
-use Rattle.form.proofs.Theorems.{demand}
+use Rattle.form.proofs.Plans.{settled-none, settled-some}
+use Rattle.form.proofs.Theorems.{settles, the-form, demand}
 use Rattle.grammar.specs.Check.{same, differs, firstDiffer, verdict, judged, checked}
 use Rattle.grammar.proofs.Differences.{same-order}
 use Rattle.grammar.proofs.Written.{written-read}
@@ -70,12 +70,6 @@ module _ (b : List ℕ) (w : WellFormed b) where
   fine : reading b ≡ Fine
   fine = well-formed-fine b w
 
-  settles : plan b ≡ settled (firstN R n) (text (form R n))
-  settles = plan-fine b fine
-
-  the-form : firstN R n ≡ none → HouseForm R n (form R n)
-  the-form e = form-is R n (before-order b) (no-n-is R n .0 e) (w .goals-from)
-
   house-form : (f : Expr) → HasForm b f → HouseForm R n f
   house-form f h =
       record {
@@ -97,8 +91,8 @@ module _ (b : List ℕ) (w : WellFormed b) where
   -- ---- T8, round trip: the check of the text that the form operation writes says "same",
   pub form-says-same : (t : List ℕ) → plan b ≡ written t → check b t ≡ saying same
   form-says-same t p =
-      let s = settled-text (firstN R n) (text (form R n)) t (sym settles ∙ p) in
-      sym (checks-as t) ∙ ap (λ (u : List ℕ). ruled (checked n R u)) (sym (s .1)) ∙ ap ruled (form-same R n (form R n) (the-form (s .0)) (w .goals-to))
+      let s = settled-text (firstN R n) (text (form R n)) t (sym (settles b w) ∙ p) in
+      sym (checks-as t) ∙ ap (λ (u : List ℕ). ruled (checked n R u)) (sym (s .1)) ∙ ap ruled (form-same R n (form R n) (the-form b w (s .0)) (w .goals-to))
 
   -- and of the text of every other house form that uses each goal once "differs", with the first pair that just one of the two orders has.
   pub others-differ : (f : Expr) → HasForm b f → (e : Expr) → House e → UsesOnce n e → (e ≡ f → ⊥)
@@ -124,9 +118,9 @@ module _ (b : List ℕ) (w : WellFormed b) where
     where
       go : (o : Option Four) → firstN R n ≡ o → plan b ≡ written (text f)
       go none e =
-          settles ∙ settled-none (text (form R n)) e
-          ∙ ap (λ (x : Expr). written (text x)) (form-unique R n (form R n) f (the-form e) (house-form f h))
-      go (some q) e = absurd (demand-3 .exactly .0 (q, settles ∙ settled-some (text (form R n)) q e) f (h .expresses))
+          settles b w ∙ settled-none (text (form R n)) e
+          ∙ ap (λ (x : Expr). written (text x)) (form-unique R n (form R n) f (the-form b w e) (house-form f h))
+      go (some q) e = absurd (demand-3 .exactly .0 (q, settles b w ∙ settled-some (text (form R n)) q e) f (h .expresses))
 
   -- ---- T9: the order operation gives the graph of the record's order, which has i before j exactly if a chain of waits leads from i to j,
   pub order-graph : orderGraph b ≡ graphOf n R
@@ -188,16 +182,16 @@ module _ (b : List ℕ) (w : WellFormed b) where
       text-not t q e = let z : _≡_ {A = ℕ} 0 1 = cc in omega arith
 
       there : firstN R n ≡ none → (q : Four) → plan b ≡ noForm q → ⊥
-      there e q p = text-not (text (form R n)) q (sym (settles ∙ settled-none (text (form R n)) e) ∙ p)
+      there e q p = text-not (text (form R n)) q (sym (settles b w ∙ settled-none (text (form R n)) e) ∙ p)
 
       back : ((q : Four) → plan b ≡ noForm q → ⊥) → (o : Option Four) → firstN R n ≡ o → firstN R n ≡ none
       back h none e = e
-      back h (some q) e = absurd (h q (settles ∙ settled-some (text (form R n)) q e))
+      back h (some q) e = absurd (h q (settles b w ∙ settled-some (text (form R n)) q e))
 
   -- and then the text written is that of section 3.2's linear expression, restored to house form.
   pub published-text : figure1 R n ≡ true → plan b ≡ written (text (restore (udgExpr R n)))
   published-text t =
-      settles ∙ settled-none (text (form R n)) (figure-none .0 t) ∙ ap written (sym (udg-text R n (before-order b) (w .goals-from) t))
+      settles b w ∙ settled-none (text (form R n)) (figure-none .0 t) ∙ ap written (sym (udg-text R n (before-order b) (w .goals-from) t))
 
 -- ---- Goal text: for any bytes and any number the part handed out is the one whose place and length the other call gives.
 pub calls-agree : (s r : RefT (List ℕ)) (g : ℕ) (a : TextAnswer) → textValues a ≡ goalText (s .now) g

@@ -8,16 +8,22 @@ use native.Mathlib.Nat.{eq-or-lt-of-le, le-of-suc-le-suc, not-suc-le-zero}
 use native.Mathlib.Omega.{arith}
 use lib.Dec.{eqb, ltb}
 use lib.ListN.{length}
-use borrow.Author.Tests.{le-leb, eq-eqb, ne-eqb}
+use borrow.Author.Tests.{ltb-true, le-leb, eq-eqb, ne-eqb}
+use Rattle.logic.proofs.Bools.{and-l, and-r}
 use Rattle.fields.specs.Fields.{byte, goalCount, varCount, pairCount, pairsPlace, pairAt}
 use Rattle.reading.specs.declared.Reading.{Reading}
 use Rattle.reading.specs.declared.Reading.the-variants.{Fine}
 use Rattle.reading.specs.Reading.{ordered, ascends, goals, pair, pairs, ending}
 use Rattle.reading.specs.Fine.{fine}
 use Rattle.reading.proofs.Fine.{fine-must}
-use Rattle.pairs.specs.Order.{inOrder}
+use Rattle.pairs.specs.Order.{pairFine, inOrder}
 use Rattle.pairs.proofs.Turns.{last, order-more}
 use Rattle.decoding.specs.Decoding.{restFine}
+
+pub pair-below : (low high v last key : ℕ) (t : Bool) → t ≡ pairFine low high v last key → t ≡ true → (low < high) × (high < v)
+pair-below low high v last key t et e =
+    let o = and-l (ltb low high && ltb high v) (ltb last key) (sym et ∙ e) in
+    (ltb-true low high (and-l (ltb low high) (ltb high v) o), ltb-true high v (and-r (ltb low high) (ltb high v) o))
 
 module _ (b : List ℕ) where
   -- ---- one turn of the loop, as the code makes it
@@ -29,16 +35,16 @@ module _ (b : List ℕ) where
       ⊎-elim (λ q. let s : suc n ≡ k + 1 = omega (arith, q) in ap (inOrder b) s ∙ e)
       (λ l. ap (λ (t : Bool). t && (ordered b (pairAt b n) && ascends b n)) (order-fails k n l e)) (eq-or-lt-of-le (le-of-suc-le-suc h))
 
-  module _ (from v low high before k : ℕ) (ef : from ≡ pairsPlace b) (ev : v ≡ varCount b) (el : low ≡ byte b (from + 2 * k))
-      (eh : high ≡ byte b (from + 2 * k + 1)) (eb : before ≡ last b k) (eo : inOrder b k ≡ true) where
-    turn : (ltb low high && ltb high v) && ltb before (low * 256 + high) ≡ inOrder b (k + 1)
-    turn = order-more b from v low high before k true ef ev el eh eb (sym eo)
+  module _ (from v low high before k : ℕ) (t : Bool) (ef : from ≡ pairsPlace b) (ev : v ≡ varCount b) (el : low ≡ byte b (from + 2 * k))
+      (eh : high ≡ byte b (from + 2 * k + 1)) (eb : before ≡ last b k) (et : t ≡ pairFine low high v before (low * 256 + high)) (eo : inOrder b k ≡ true) where
+    turn : t ≡ inOrder b (k + 1)
+    turn = order-more b from v low high before k t true ef ev el eh eb et (sym eo)
 
-    pub pair-more : (ltb low high && ltb high v) && ltb before (low * 256 + high) ≡ true → inOrder b (k + 1) ≡ true
-    pair-more t = sym turn ∙ t
+    pub pair-more : t ≡ true → inOrder b (k + 1) ≡ true
+    pair-more e = sym turn ∙ e
 
-    pub pair-fails : (p : ℕ) → k < p → (ltb low high && ltb high v) && ltb before (low * 256 + high) ≡ false → inOrder b p ≡ false
-    pair-fails p h t = order-fails k p h (sym turn ∙ t)
+    pub pair-fails : (p : ℕ) → k < p → t ≡ false → inOrder b p ≡ false
+    pair-fails p h e = order-fails k p h (sym turn ∙ e)
 
   -- ---- the pairs and the end, by plain tests
 

@@ -46,7 +46,7 @@ fn take_pairs(b: &[u8], from: usize, v: u32, p: usize, rows: &mut [u64; 64]) -> 
         let low = fields::small(b[at]);
         let high = fields::small(b[at + 1]);
         let key = low * 256 + high;
-        if (low < high) & (high < v) & (last < key) {
+        if pairs::pair_fine(low, high, v, last, key) {
             let i = low as usize;
             let j = high as usize;
             rows[i] = rows[i] | (1u64 << j);

@@ -146,13 +146,15 @@ module _ (b : List ℕ) where
           go false h u = absurd (omega (arith, in-times e i (stands-in e i s)))
 
   module _ (w : WellFormed b) where
-    settles : plan b ≡ settled (firstN R n) (text (form R n))
+    -- the search settles the plan: its N, or the form's text
+    pub settles : plan b ≡ settled (firstN R n) (text (form R n))
     settles = plan-fine b (well-formed-fine b w)
 
     first-found : (q : Four) → plan b ≡ noForm q → firstN R n ≡ some q
     first-found q e = settled-found (firstN R n) (text (form R n)) q (sym settles ∙ e)
 
-    the-form : firstN R n ≡ none → HouseForm R n (form R n)
+    -- where there is no N, the form is the house form of the record's order
+    pub the-form : firstN R n ≡ none → HouseForm R n (form R n)
     the-form e = form-is R n (O′.before-order b) (not-found R n e) (w .goals-from)
 
     exactly : ((q : Four) × (plan b ≡ noForm q)) ↔ ((e : Expr) → Expresses b e → ⊥)

@@ -1,18 +1,13 @@
 -- Rows that have the listed pairs of the variables below w are as good as the list.
-use mathlib.Core.Path.{_≡_, refl, ap, ap₂}
+use mathlib.Core.Path.{_≡_, ap}
 use mathlib.Core.Bool.{Bool, not, _&&_, _||_}
 use mathlib.Core.List.{List}
-use Prim.Native.Nat.{ℕ, zero, suc, _<_}
-use native.Mathlib.Nat.{le-step, lt-suc-self}
+use Prim.Native.Nat.{ℕ, _<_}
 use Rattle.logic.specs.Quantifiers.{every, implies}
+use Rattle.logic.proofs.Quantifiers.{every-cong}
 use Rattle.sets.specs.Sets.{has}
 use Rattle.judge.specs.Independence.{only, knownIndependent, independent}
 use Rattle.judge.specs.ByRows.{listedIn, waitsBy}
-
-every-cong : (w : ℕ) (f g : ℕ → Bool) → ((x : ℕ) → x < w → f x ≡ g x) → every w f ≡ every w g
-unfolding every
-every-cong zero f g h = refl
-every-cong (suc w) f g h = ap₂ _&&_ (every-cong w f g (λ x l. h x (le-step l))) (h w (lt-suc-self w))
 
 pub waits-listed : (ground free : ℕ) (rows : List ℕ) (listed : ℕ → ℕ → Bool) (w a b : ℕ)
     → ((x y : ℕ) → x < w → y < w → listedIn rows x y ≡ listed x y) → waitsBy ground free rows w a b ≡ not (independent ground free listed w a b)

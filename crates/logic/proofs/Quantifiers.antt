@@ -1,7 +1,7 @@
 -- What the bounded quantifiers say.
-use mathlib.Core.Path.{_≡_, refl, sym, ap, _∙_}
+use mathlib.Core.Path.{_≡_, refl, sym, ap, ap₂, _∙_}
 use mathlib.Core.Logic.{_⊎_, ⊎-elim}
-use mathlib.Core.Bool.{Bool, true, false, false≢true}
+use mathlib.Core.Bool.{Bool, true, false, _&&_, _||_, false≢true}
 use Prim.Native.Nat.{ℕ, zero, suc, _<_}
 use native.Mathlib.Nat.{eq-or-lt-of-le, le-of-suc-le-suc, not-suc-le-zero, le-step, lt-suc-self}
 use native.Mathlib.Omega.{arith}
@@ -18,6 +18,11 @@ pub every-in : (w : ℕ) (f : ℕ → Bool) → ((x : ℕ) → x < w → f x ≡
 unfolding every
 every-in zero f h = refl
 every-in (suc w) f h = and-i (every w f) (f w) (every-in w f (λ x l. h x (le-step l))) (h w (lt-suc-self w))
+
+pub every-cong : (w : ℕ) (f g : ℕ → Bool) → ((x : ℕ) → x < w → f x ≡ g x) → every w f ≡ every w g
+unfolding every
+every-cong zero f g h = refl
+every-cong (suc w) f g h = ap₂ _&&_ (every-cong w f g (λ x l. h x (le-step l))) (h w (lt-suc-self w))
 
 -- a number below w of which f holds
 pub record Below (w : ℕ) (f : ℕ → Bool) : Type 0 where
@@ -37,3 +42,8 @@ unfolding someBelow
 below-in zero f x l e = absurd (omega arith)
 below-in (suc w) f x l e =
     ⊎-elim (λ s. or-r (someBelow w f) (f w) (ap f (sym s) ∙ e)) (λ k. or-l (someBelow w f) (f w) (below-in w f x k e)) (eq-or-lt-of-le (le-of-suc-le-suc l))
+
+pub some-cong : (w : ℕ) (f g : ℕ → Bool) → ((x : ℕ) → x < w → f x ≡ g x) → someBelow w f ≡ someBelow w g
+unfolding someBelow
+some-cong zero f g h = refl
+some-cong (suc w) f g h = ap₂ _||_ (some-cong w f g (λ x l. h x (le-step l))) (h w (lt-suc-self w))

@@ -1,8 +1,8 @@
 -- A bound on the length of the annotation by the number of goals n and of variables v: n * 15 * (v + v * v) + 8 * n. A buffer as long as that takes every
 -- such text, so it is written without being measured.
-use mathlib.Core.Path.{_≡_, refl, sym, ap, _∙_}
+use mathlib.Core.Path.{_≡_, sym, ap, _∙_}
 use mathlib.Core.Logic.{⊎-elim}
-use mathlib.Core.Bool.{Bool, true, false, cond, true≢false}
+use mathlib.Core.Bool.{Bool, true, false, cond}
 use mathlib.Core.List.{List, [], _∷_, map}
 use Prim.Native.Nat.{ℕ, zero, suc, _+_, _-_, _*_, _≤_, _<_, _^_, zero-le, suc-le-suc}
 use native.Mathlib.Nat.{le-step, suc-mul, mul-le-mul-right}
@@ -11,7 +11,7 @@ use lib.ListN.{length, length-append, length-map}
 use Rattle.logic.proofs.Bools.{and-l}
 use Rattle.sets.specs.Sets.{has, meet, union, without, below, count, membersFrom, members}
 use Rattle.sets.proofs.Laws.{has-meet, has-without}
-use Rattle.sets.proofs.Members.{count-members}
+use Rattle.sets.proofs.Members.{count-members, no-more}
 use Rattle.text.specs.Text.{some}
 use Rattle.text.proofs.Laws.{decimal-length}
 use Rattle.stages.specs.Mel.{Ground, Indep, goal, start, checks}
@@ -25,19 +25,7 @@ use Rattle.stage_texts.proofs.Whole.{checks-masks, stages-one, stages-more, sta
 use Rattle.stage_texts.proofs.Room.{same-or}
 use Rattle.mel.proofs.Length.{checks-length, goals-bound, arrow-length, none-text, mel-text}
 
--- a set has no more members than one that holds them all, and no more than the width
-members-le : (w i a b : ℕ) → ((j : ℕ) → has a j ≡ true → has b j ≡ true) → length (membersFrom w i a) ≤ length (membersFrom w i b)
-unfolding membersFrom
-members-le zero i a b h = zero-le
-members-le (suc w) i a b h = go (has a i) (has b i) (h i) (members-le w (suc i) a b h)
-  where
-    go : (s t : Bool) → (s ≡ true → t ≡ true) → length (membersFrom w (suc i) a) ≤ length (membersFrom w (suc i) b)
-        → length (cond s (i ∷ membersFrom w (suc i) a) (membersFrom w (suc i) a)) ≤ length (cond t (i ∷ membersFrom w (suc i) b) (membersFrom w (suc i) b))
-    go true true f l = suc-le-suc l
-    go true false f l = absurd (true≢false (sym (f refl)))
-    go false true f l = le-step l
-    go false false f l = l
-
+-- a set has no more members than the width
 members-width : (w i m : ℕ) → length (membersFrom w i m) ≤ w
 unfolding membersFrom
 members-width zero i m = zero-le
@@ -102,7 +90,7 @@ module _ (head : ℕ) (sets grounds rows : List ℕ) (n : ℕ) where
         arith,
         length-append (map (Indep x) (members 64 set)) (pairsOf sets rows p q k l),
         length-map (members 64 set) (Indep x),
-        members-le 64 0 set vars (λ y e. h y (partners-in sets p q k (goal rows (x + 1)) x y e)),
+        no-more 64 0 set vars (λ y e. h y (partners-in sets p q k (goal rows (x + 1)) x y e)),
         pairs-count p q k h l,
         suc-mul (length l) v,
       )
@@ -116,9 +104,9 @@ module _ (head : ℕ) (sets grounds rows : List ℕ) (n : ℕ) where
         ap length (checks-masks head sets grounds rows p q),
         length-append (map Ground g) (pairsOf sets rows p q k (members 64 k)),
         length-map g Ground,
-        members-le 64 0 (groundSet sets grounds p q) vars (λ x e. gset-in p q x h e),
+        no-more 64 0 (groundSet sets grounds p q) vars (λ x e. gset-in p q x h e),
         pairs-count p q k (λ y e. kset-in p q y h e) (members 64 k),
-        mul-le-mul-right v (members-le 64 0 k vars (λ x e. kset-in p q x h e)),
+        mul-le-mul-right v (no-more 64 0 k vars (λ x e. kset-in p q x h e)),
       )
 
   checks-most : (p q : ℕ) → q ≤ n → length (checksText head sets grounds rows false p q) ≤ 15 * (v + v * v)

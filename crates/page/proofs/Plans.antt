@@ -16,21 +16,20 @@ use Rattle.text.proofs.Lent.{fits-le}
 use Rattle.fields.specs.Fields.{goalCount}
 use Rattle.refusal.specs.declared.Refusal.{Refusal}
 use Rattle.record.specs.WellFormed.{WellFormed}
-use Rattle.record.proofs.WellFormed.{well-formed-fine}
 use Rattle.order.specs.Order.{before}
-use Rattle.order.proofs.Theorems.{before-order}
 use Rattle.expression.specs.Expr.{Expr, goal, join}
 use Rattle.expression.specs.Search.{Four, IsN, firstN}
 use Rattle.expression.specs.Form.{form}
 use Rattle.expression.specs.Text.{number, mark, inner, run, text}
-use Rattle.expression.proofs.Search.{found-first, not-found}
-use Rattle.expression.proofs.Theorems.{form-is, text-fits}
+use Rattle.expression.proofs.Search.{found-first}
+use Rattle.expression.proofs.Theorems.{text-fits}
 use Rattle.first_n.specs.declared.Four.{Four as Goals}
 use Rattle.first_n.specs.Found.{four}
 use Rattle.form.specs.declared.Written.{Written}
 use Rattle.form.specs.declared.Written.the-variants as W
 use Rattle.form.specs.Form.{Plan, noForm, written, settled, plan, Values, refusal, thirteen, done, values, answer, filled}
-use Rattle.form.proofs.Plans.{plan-fine, settled-none, settled-some}
+use Rattle.form.proofs.Plans.{settled-none, settled-some}
+use Rattle.form.proofs.Theorems as F′
 use Rattle.page.specs.Sheet.{formWord, formText}
 use Rattle.page.proofs.Lines.{form-parts, none-length}
 
@@ -56,11 +55,11 @@ module _ (b : List ℕ) (w : WellFormed b) where
   settles = go (firstN (before b) (goalCount b)) refl
     where
       p : plan b ≡ settled (firstN (before b) (goalCount b)) (text (form (before b) (goalCount b)))
-      p = plan-fine b (well-formed-fine b w)
+      p = F′.settles b w
 
       go : (o : Option Four) → firstN (before b) (goalCount b) ≡ o → Settled b
       go none e =
-          let f = form-is (before b) (goalCount b) (before-order b) (not-found (before b) (goalCount b) e) (w .goals-from) in
+          let f = F′.the-form b w e in
           let t = text (form (before b) (goalCount b)) in
           a-text t (p ∙ settled-none t e) (text-some (form (before b) (goalCount b))) (text-fits (goalCount b) (form (before b) (goalCount b)) (f .uses) (w .goals-to))
       go (some q) e = four-goals q (p ∙ settled-some (text (form (before b) (goalCount b))) q e) (found-first (before b) (goalCount b) q e .is)

@@ -14,7 +14,7 @@ use Rattle.fields.proofs.Digits.{number-two}
 use Rattle.reading.specs.declared.Reading.{Reading}
 use Rattle.reading.specs.Reading.{_must_else_place_, pair, pairs, ordered, ascends}
 use Rattle.reading.proofs.Must.{must-so}
-use Rattle.pairs.specs.Order.{inOrder}
+use Rattle.pairs.specs.Order.{pairFine, inOrder}
 
 module _ (b : List ℕ) where
   pub pairs-zero : (s : Reading) → s ≡ pairs b 0 s
@@ -45,9 +45,8 @@ module _ (b : List ℕ) where
   and-true true q h = h refl
   and-true false q h = refl
 
-  pub in-turn : (k : ℕ)
-      → (ltb (byte b (pairAt b k)) (byte b (pairAt b k + 1)) && ltb (byte b (pairAt b k + 1)) (varCount b))
-      && ltb (last k) (byte b (pairAt b k) * 256 + byte b (pairAt b k + 1))
+  in-turn : (k : ℕ)
+      → pairFine (byte b (pairAt b k)) (byte b (pairAt b k + 1)) (varCount b) (last k) (byte b (pairAt b k) * 256 + byte b (pairAt b k + 1))
       ≡ ordered b (pairAt b k) && ascends b k
   unfolding ordered ascends last
   in-turn zero =
@@ -58,16 +57,15 @@ module _ (b : List ℕ) where
       let l : low < high = ltb-true low high (and-l (ltb low high) (ltb high (varCount b)) e) in
       lt-ltb 0 (low * 256 + high) (omega arith))
   in-turn (suc k) =
-      ap (λ (x : ℕ). (ltb (byte b (pairAt b (suc k))) (byte b (pairAt b (suc k) + 1)) && ltb (byte b (pairAt b (suc k) + 1)) (varCount b))
-      && ltb (number b (pairAt b k) 2) x) (sym (number-two b (pairAt b (suc k))))
+      ap (pairFine (byte b (pairAt b (suc k))) (byte b (pairAt b (suc k) + 1)) (varCount b) (number b (pairAt b k) 2)) (sym (number-two b (pairAt b (suc k))))
 
   -- one turn of the loop over the pairs, as the code makes it
-  pub pair-more : (from v low high before k : ℕ) (s t r r₂ : Reading) → from ≡ pairsPlace b → v ≡ varCount b → low ≡ byte b (from + 2 * k)
-      → high ≡ byte b (from + 2 * k + 1) → before ≡ last k → t ≡ pairs b k s
+  pub pair-more : (from v low high before k : ℕ) (p : Bool) (s t r r₂ : Reading) → from ≡ pairsPlace b → v ≡ varCount b → low ≡ byte b (from + 2 * k)
+      → high ≡ byte b (from + 2 * k + 1) → before ≡ last k → p ≡ pairFine low high v before (low * 256 + high) → t ≡ pairs b k s
       → r ≡ (t must leb (from + 2 * k + 2) (length b) else 7 place length b)
-      → r₂ ≡ (r must (ltb low high && ltb high v) && ltb before (low * 256 + high) else 10 place (from + 2 * k)) → r₂ ≡ pairs b (k + 1) s
+      → r₂ ≡ (r must p else 10 place (from + 2 * k)) → r₂ ≡ pairs b (k + 1) s
   unfolding pair
-  pair-more from v low high before k s t r r₂ ef ev el eh eb et er e =
+  pair-more from v low high before k p s t r r₂ ef ev el eh eb ep et er e =
       cc (pairs-more k s, in-turn k)
 
   -- ---- all in order
@@ -80,10 +78,10 @@ module _ (b : List ℕ) where
   unfolding inOrder
   order-suc k = rw add-one
 
-  pub order-more : (from v low high before k : ℕ) (ok : Bool) → from ≡ pairsPlace b → v ≡ varCount b → low ≡ byte b (from + 2 * k)
-      → high ≡ byte b (from + 2 * k + 1) → before ≡ last k → ok ≡ inOrder b k
-      → ok && ((ltb low high && ltb high v) && ltb before (low * 256 + high)) ≡ inOrder b (k + 1)
-  order-more from v low high before k ok ef ev el eh eb eo = cc (order-suc k, in-turn k)
+  pub order-more : (from v low high before k : ℕ) (p ok : Bool) → from ≡ pairsPlace b → v ≡ varCount b → low ≡ byte b (from + 2 * k)
+      → high ≡ byte b (from + 2 * k + 1) → before ≡ last k → p ≡ pairFine low high v before (low * 256 + high) → ok ≡ inOrder b k
+      → ok && p ≡ inOrder b (k + 1)
+  order-more from v low high before k p ok ef ev el eh eb ep eo = cc (order-suc k, in-turn k)
 
   pub order-none : (p : ℕ) (s : Reading) → pairsPlace b + 2 * p ≤ length b → inOrder b p ≡ true → s ≡ pairs b p s
   unfolding inOrder pairs pair

@@ -7,6 +7,13 @@ ghost use lib.ListN.{length};
 ghost use Rattle.reading.specs.Reading as R;
 ghost use Rattle.pairs.specs.Order as O;
 
+// Whether a pair is lower then higher, below v, and its key above that of the pair before it.
+pub fn pair_fine(low: u32, high: u32, v: u32, last: u32, key: u32) -> bool
+    ensures { λ r. ⌜ r ≡ O.pairFine low high v last key ⌝ }
+{
+    (low < high) & (high < v) & (last < key)
+}
+
 // Whether p pairs, which stand from `from` on, are all in order.
 fn in_order(b: &[u8], from: usize, v: u32, p: usize) -> bool
     requires { ⌜ (from + 2 * p ≤ length (now b)) × (p < 256) × (v ≡ F.varCount (now b)) × (from ≡ F.pairsPlace (now b)) ⌝ }
@@ -20,7 +27,7 @@ fn in_order(b: &[u8], from: usize, v: u32, p: usize) -> bool
         let low = fields::small(b[at]);
         let high = fields::small(b[at + 1]);
         let key = low * 256 + high;
-        ok = ok & ((low < high) & (high < v) & (last < key));
+        ok = ok & pair_fine(low, high, v, last, key);
         last = key;
         k += 1;
     }
@@ -42,7 +49,7 @@ fn each_pair(b: &[u8], from: usize, v: u32, p: usize, s: Reading) -> Reading
         let high = fields::small(fields::byte(b, at + 1));
         let key = low * 256 + high;
         t = reading::also(t, at + 2 <= size, 7, size);
-        t = reading::also(t, (low < high) & (high < v) & (last < key), 10, at);
+        t = reading::also(t, pair_fine(low, high, v, last, key), 10, at);
         last = key;
         k += 1;
     }

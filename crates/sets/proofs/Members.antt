@@ -12,7 +12,7 @@ use lib.Dec.{eqb}
 use lib.Arith.{lt-one}
 use lib.Count.{ones, ones-step}
 use borrow.Author.Tests.{eq-eqb, ne-eqb}
-use Rattle.logic.proofs.Bools.{is-false}
+use Rattle.logic.proofs.Bools.{by-test, is-false}
 use Rattle.sets.specs.Sets.{has, without, single, first, count, membersFrom, members}
 use Rattle.sets.proofs.Laws.{has-zero, has-suc, has-without, has-single, has-empty, none-empty, member-below, first-least, first-member}
 
@@ -67,11 +67,6 @@ abbrev pub Ascending : List ℕ → Type 0
 Ascending [] = Unit {0}
 Ascending (x ∷ l) = ((y : ℕ) → In y l → x < y) × Ascending l
 
--- how the list begins
-pick-in : (P : List ℕ → Type 0) (p : Bool) (x : ℕ) (l : List ℕ) → (p ≡ true → P (x ∷ l)) → (p ≡ false → P l) → P (cond p (x ∷ l) l)
-pick-in P true x l f g = f refl
-pick-in P false x l f g = g refl
-
 pub in-members : (w i m x : ℕ) → In x (membersFrom w i m) → (i ≤ x) × (x < i + w) × (has m x ≡ true)
 unfolding membersFrom
 in-members zero i m x = λ h. absurd h
@@ -79,7 +74,7 @@ in-members (suc w) i m x =
     let rest : In x (membersFrom w (suc i) m) → (i ≤ x) × (x < i + suc w) × (has m x ≡ true) =
     λ h. let r = in-members w (suc i) m x h in (omega arith, omega arith, r .2)
     in
-    pick-in (λ (l : List ℕ). In x l → (i ≤ x) × (x < i + suc w) × (has m x ≡ true)) (has m i) i (membersFrom w (suc i) m)
+    by-test (λ (l : List ℕ). In x l → (i ≤ x) × (x < i + suc w) × (has m x ≡ true)) (has m i)
     (λ e. ⊎-elim (λ q. (omega arith, omega arith, ap (has m) q ∙ e)) rest) (λ e. rest)
 
 pub members-in : (w i m x : ℕ) → i ≤ x → x < i + w → has m x ≡ true → In x (membersFrom w i m)
@@ -89,16 +84,16 @@ members-in (suc w) i m x l h e = go (λ k. members-in w (suc i) m x k (omega ari
   where
     go : (i < x → In x (membersFrom w (suc i) m)) → (i ≡ x) ⊎ (i < x) → In x (cond (has m i) (i ∷ membersFrom w (suc i) m) (membersFrom w (suc i) m))
     go f (inl q) =
-        pick-in (In x) (has m i) i (membersFrom w (suc i) m) (λ p. inl (sym q)) (λ p. absurd (false≢true (sym p ∙ ap (has m) q ∙ e)))
+        by-test (In x) (has m i) (λ p. inl (sym q)) (λ p. absurd (false≢true (sym p ∙ ap (has m) q ∙ e)))
     go f (inr k) =
         let r = f k in
-        pick-in (In x) (has m i) i (membersFrom w (suc i) m) (λ p. inr r) (λ p. r)
+        by-test (In x) (has m i) (λ p. inr r) (λ p. r)
 
 pub members-ascend : (w i m : ℕ) → Ascending (membersFrom w i m)
 unfolding membersFrom
 members-ascend zero i m = tt
 members-ascend (suc w) i m =
-    pick-in Ascending (has m i) i (membersFrom w (suc i) m)
+    by-test Ascending (has m i)
     (λ e. (λ y h. in-members w (suc i) m y h .0, members-ascend w (suc i) m)) (λ e. members-ascend w (suc i) m)
 
 -- ---- the first member, and the others
@@ -164,7 +159,8 @@ one-le true false h = absurd (false≢true (h refl))
 one-le false true h = omega arith
 one-le false false h = omega arith
 
-no-more : (k i a b : ℕ) → ((j : ℕ) → has a j ≡ true → has b j ≡ true) → length (membersFrom k i a) ≤ length (membersFrom k i b)
+-- a set has no more members than one that holds them all
+pub no-more : (k i a b : ℕ) → ((j : ℕ) → has a j ≡ true → has b j ≡ true) → length (membersFrom k i a) ≤ length (membersFrom k i b)
 unfolding membersFrom
 no-more zero i a b h = zero-le
 no-more (suc k) i a b h = omega (arith, size-step k i a, size-step k i b, one-le (has a i) (has b i) (h i), no-more k (suc i) a b h)

@@ -6,6 +6,7 @@ use mathlib.Core.List.{List, [], _∷_, _++_, map}
 use Prim.Native.Nat.{ℕ, zero, suc, _+_, _≤_, _<_, zero-le}
 use native.Mathlib.Nat.{eq-or-lt-of-le}
 use native.Mathlib.Omega.{arith}
+use Rattle.logic.proofs.Bools.{by-test}
 use Rattle.stages.specs.Mel.{Clause, Check, Ground, Indep, thoseFrom, groundCheck, indepCheck, indepsFrom, checks}
 use Rattle.stages.specs.Plain.{Among, Before, Ascending, Grounded, Separate}
 use Rattle.stages.proofs.Words.{ground-out, ground-in, indep-out, indep-in}
@@ -42,10 +43,6 @@ map-among f b (x ∷ l) (inr h) = let r = map-among f b l h in record { a = r .a
 
 -- ---- the numbers of which f holds
 
-pick-among : (P : List ℕ → Type 0) (b : Bool) (x : ℕ) (l : List ℕ) → (b ≡ true → P (x ∷ l)) → (b ≡ false → P l) → P (cond b (x ∷ l) l)
-pick-among P true x l f g = f refl
-pick-among P false x l f g = g refl
-
 those-out : (k i : ℕ) (f : ℕ → Bool) (x : ℕ) → Among x (thoseFrom k i f) → (i ≤ x) × ((x < i + k) × (f x ≡ true))
 unfolding thoseFrom
 those-out zero i f x = λ h. absurd h
@@ -53,7 +50,7 @@ those-out (suc k) i f x =
     let rest : Among x (thoseFrom k (suc i) f) → (i ≤ x) × ((x < i + suc k) × (f x ≡ true)) =
     λ h. let r = those-out k (suc i) f x h in (omega arith, (omega arith, r .1 .1))
     in
-    pick-among (λ (l : List ℕ). Among x l → (i ≤ x) × ((x < i + suc k) × (f x ≡ true))) (f i) i (thoseFrom k (suc i) f)
+    by-test (λ (l : List ℕ). Among x l → (i ≤ x) × ((x < i + suc k) × (f x ≡ true))) (f i)
     (λ e. ⊎-elim (λ q. (omega arith, (omega arith, ap f q ∙ e))) rest) (λ e. rest)
 
 those-in : (k i : ℕ) (f : ℕ → Bool) (x : ℕ) → i ≤ x → x < i + k → f x ≡ true → Among x (thoseFrom k i f)
@@ -62,8 +59,8 @@ those-in zero i f x l h e = absurd (omega arith)
 those-in (suc k) i f x l h e = go (λ g. those-in k (suc i) f x g (omega arith) e) (eq-or-lt-of-le l)
   where
     go : (i < x → Among x (thoseFrom k (suc i) f)) → (i ≡ x) ⊎ (i < x) → Among x (cond (f i) (i ∷ thoseFrom k (suc i) f) (thoseFrom k (suc i) f))
-    go r (inl q) = pick-among (Among x) (f i) i (thoseFrom k (suc i) f) (λ p. inl (sym q)) (λ p. absurd (false≢true (sym p ∙ ap f q ∙ e)))
-    go r (inr g) = pick-among (Among x) (f i) i (thoseFrom k (suc i) f) (λ p. inr (r g)) (λ p. r g)
+    go r (inl q) = by-test (Among x) (f i) (λ p. inl (sym q)) (λ p. absurd (false≢true (sym p ∙ ap f q ∙ e)))
+    go r (inr g) = by-test (Among x) (f i) (λ p. inr (r g)) (λ p. r g)
 
 -- ---- telling the two kinds apart
 
@@ -154,7 +151,7 @@ those-rise : (k i : ℕ) (f : ℕ → Bool) → Rising (thoseFrom k i f)
 unfolding thoseFrom
 those-rise zero i f = tt
 those-rise (suc k) i f =
-    pick-among Rising (f i) i (thoseFrom k (suc i) f) (λ e. (λ y h. those-out k (suc i) f y h .0, those-rise k (suc i) f)) (λ e. those-rise k (suc i) f)
+    by-test Rising (f i) (λ e. (λ y h. those-out k (suc i) f y h .0, those-rise k (suc i) f)) (λ e. those-rise k (suc i) f)
 
 rise-map : (f : ℕ → Check) → ((x y : ℕ) → x < y → Before (f x) (f y)) → (l : List ℕ) → Rising l → Ascending (map f l)
 rise-map f m [] r = tt

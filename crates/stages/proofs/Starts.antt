@@ -10,7 +10,7 @@ use lib.Dec.{eqb}
 use borrow.Author.Tests.{eq-eqb, ne-eqb}
 use Rattle.logic.specs.Quantifiers.{someBelow}
 use Rattle.logic.proofs.Bools.{iff, or-elim, or-l, or-r, is-false}
-use Rattle.logic.proofs.Quantifiers.{below-out, below-in}
+use Rattle.logic.proofs.Quantifiers.{below-out, below-in, some-cong}
 use Rattle.sets.specs.Sets.{has, union, meet, without}
 use Rattle.sets.proofs.Laws.{has-union, has-meet, has-without, has-empty, none-empty, member-below}
 use Rattle.stages.specs.Mel.{goal, occurs, firstIn, boundary, largest, start}
@@ -27,11 +27,6 @@ some-mask w m h = go (someBelow w (has m)) refl
         ap not (ne-eqb m 0 (λ e. true≢false (sym (r .so) ∙ ap (λ (k : ℕ). has k (r .x)) e ∙ has-empty (r .x))))
     go false s =
         ap not (eq-eqb m 0 (none-empty m (λ i. is-false (has m i) (λ e. true≢false (sym (below-in w (has m) i (member-below w m i h e) e) ∙ s)))))
-
-some-cong : (w : ℕ) (f g : ℕ → Bool) → ((x : ℕ) → f x ≡ g x) → someBelow w f ≡ someBelow w g
-unfolding someBelow
-some-cong zero f g h = refl
-some-cong (suc w) f g h = ap₂ _||_ (some-cong w f g h) (h w)
 
 -- ---- the variables of goals p+1 to q, from q downward
 
@@ -61,7 +56,7 @@ module _ (sets : List ℕ) (q : ℕ) where
   unfolding boundary firstIn
   boundary-mask w head p b m r eb em h e =
       some-mask w r h
-      ∙ some-cong w (has r) (λ x. firstIn head sets p x && occurs sets p q x) (λ x.
+      ∙ some-cong w (has r) (λ x. firstIn head sets p x && occurs sets p q x) (λ x l.
       ap (λ (k : ℕ). has k x) e ∙ has-meet (without (without (goal sets p) head) b) m x
       ∙ ap₂ _&&_
       (has-without (without (goal sets p) head) b x

@@ -1,18 +1,15 @@
 use Prim.Native.Nat.{ℕ, _≤_, _<_, _*_, _+_, _-_}
 use mathlib.Core.Path.{_≡_, sym, ap, _∙_}
-use mathlib.Core.Bool.{true, _&&_, false≢true}
+use mathlib.Core.Bool.{true, false≢true}
 use native.Mathlib.Omega.{arith}
-use lib.Dec.{ltb}
 use borrow.Author.Needs.{needs}
-use borrow.Author.Tests.{ltb-true}
 use denote.Ref.{now}
-use Rattle.logic.proofs.Bools.{and-l, and-r}
 use Rattle.fields.specs.Fields as F
 use Rattle.pairs.specs.Order as O
 use Rattle.pairs.proofs.Turns as T
 use Rattle.pairs.proofs.Turns.{last-zero, last-turn, order-zero}
 use Rattle.decoding.proofs.PairRows.{rowsAfter, rows-zero, rows-turn, rows-all}
-use Rattle.decoding.proofs.Pairs.{pair-more, pair-fails}
+use Rattle.decoding.proofs.Pairs.{pair-below, pair-more, pair-fails}
 use Rattle.decoding.proofs.take_pairs.Statement.{statement}
 use Rattle.decoding.proofs.take_pairs.Tie as tie
 
@@ -23,16 +20,14 @@ abbrev μ-loop : tie.MeasureT-loop
 μ-loop b from v p rows₀ last₀ k₀ rows last k = p - k
 
 -- both variables of the pair are below 64
-below : (c : tie.Then1 Inv-loop μ-loop) → (c .before .before .before .small .result < 64) × (c .before .small2 .result < 64)
+below : (c : tie.Then1 Inv-loop μ-loop) → (c .before .before .before .before .small .result < 64) × (c .before .before .small2 .result < 64)
 below c =
-    let low = c .before .before .before .small .result in
-    let high = c .before .small2 .result in
-    let s = c .before .before .before .before .before .before .before .before in
+    let low = c .before .before .before .before .small .result in
+    let high = c .before .before .small2 .result in
+    let s = c .before .before .before .before .before .before .before .before .before in
     let v : s .args .v ≤ 64 = s .pre .1 in
-    let o : ltb low high && ltb high (s .args .v) ≡ true = and-l _ _ (c .if1 .taken) in
-    let l : low < high = ltb-true low high (and-l _ _ o) in
-    let h : high < s .args .v = ltb-true high (s .args .v) (and-r (ltb low high) _ o) in
-    (omega arith, omega arith)
+    let h = pair-below low high (s .args .v) (c .before .before .before .before .before .before .before .loop .last) (low * 256 + high) _ (c .before .pair-fine .ensures) (c .if1 .taken) in
+    (omega (arith, h), omega (arith, h))
 
 loop-holds : tie.Need-loop-holds Inv-loop μ-loop
 loop-holds c = (omega arith, c .before .pre .5 ∙ rows-zero _, last-zero _, sym (order-zero _))
@@ -63,6 +58,9 @@ mul-key c = omega arith
 
 add-key : tie.Need-add-key Inv-loop μ-loop
 add-key c = omega arith
+
+pair-fine-requires : tie.Need-pair-fine-requires Inv-loop μ-loop
+pair-fine-requires c κs = search needs
 
 cast-i : tie.Need-cast-i Inv-loop μ-loop
 cast-i c = omega arith
@@ -108,25 +106,27 @@ loop-less c = omega arith
 
 loop-again : tie.Need-loop-again Inv-loop μ-loop
 loop-again c = let d = c .before .before in
-    let l = d .before .before .before .before .before .before .loop in
-    let s = d .before .before .before .before .before .before .before .before in
+    let f = d .before in
+    let l = f .before .before .before .before .before .before .loop in
+    let s = f .before .before .before .before .before .before .before .before in
     let b = now (s .args .b) in
-    let low = d .before .before .before .small .ensures .0 in
-    let high = d .before .small2 .ensures .0 in
+    let low = f .before .before .before .small .ensures .0 in
+    let high = f .before .small2 .ensures .0 in
     let h = below d in
     let place : s .args .from + 2 * l .k ≡ F.pairAt b (l .k) = ap (λ (x : ℕ). x + 2 * l .k) (s .pre .4) in (
       omega arith,
       rows-turn b (l .k) _ _ (l .rows) (h .0) (h .1) (low ∙ ap (F.byte b) place) (high ∙ ap (λ (x : ℕ). F.byte b (x + 1)) place) (l .inv .1),
       last-turn b (s .args .from) _ _ (l .k) (s .pre .4) low high,
-      pair-more b (s .args .from) (s .args .v) _ _ (l .last) (l .k) (s .pre .4) (s .pre .2) low high (l .inv .2) (l .inv .3) (d .if1 .taken),
+      pair-more b (s .args .from) (s .args .v) _ _ (l .last) (l .k) _ (s .pre .4) (s .pre .2) low high (l .inv .2) (f .pair-fine .ensures) (l .inv .3) (d .if1 .taken),
     )
 
 returns : tie.Need-returns Inv-loop μ-loop
-returns c = let l = c .before .before .before .before .before .before .loop in
-    let s = c .before .before .before .before .before .before .before .before in
-    let low = c .before .before .before .small .ensures .0 in
-    let high = c .before .small2 .ensures .0 in
-    let bad = pair-fails (now (s .args .b)) (s .args .from) (s .args .v) _ _ (l .last) (l .k) (s .pre .4) (s .pre .2) low high (l .inv .2) (l .inv .3) (s .args .p) (omega arith) (c .if1 .left) in
+returns c = let f = c .before in
+    let l = f .before .before .before .before .before .before .loop in
+    let s = f .before .before .before .before .before .before .before .before in
+    let low = f .before .before .before .small .ensures .0 in
+    let high = f .before .small2 .ensures .0 in
+    let bad = pair-fails (now (s .args .b)) (s .args .from) (s .args .v) _ _ (l .last) (l .k) _ (s .pre .4) (s .pre .2) low high (l .inv .2) (f .pair-fine .ensures) (l .inv .3) (s .args .p) (omega arith) (c .if1 .left) in
     (sym bad, λ e. absurd (false≢true e))
 
 returns-2 : tie.Need-returns-2 Inv-loop μ-loop
@@ -152,6 +152,7 @@ take-pairs-spec =
     small-requires-2
     mul-key
     add-key
+    pair-fine-requires
     cast-i
     cast-j
     mul-rows

@@ -51,6 +51,9 @@ add-also c = omega arith
 also-requires : tie.Need-also-requires Inv-loop μ-loop
 also-requires c κs = search needs
 
+pair-fine-requires : tie.Need-pair-fine-requires Inv-loop μ-loop
+pair-fine-requires c κs = search needs
+
 also-requires-2 : tie.Need-also-requires-2 Inv-loop μ-loop
 also-requires-2 c κs = search needs
 
@@ -61,14 +64,16 @@ loop-less : tie.Need-loop-less Inv-loop μ-loop
 loop-less c = omega arith
 
 loop-again : tie.Need-loop-again Inv-loop μ-loop
-loop-again c = let l = c .before .before .before .before .before .before .before .loop in
-    let a = c .before .before .before .before .before .before .before .before .before .args in
+loop-again c = let d = c .before .before in
+    let l = d .before .before .before .before .before .before .loop in
+    let s = d .before .before .before .before .before .before .before .before in
+    let a = s .args in
     let b = now (a .b) in
-    let low = c .before .before .before .before .small .ensures .0 ∙ c .before .before .before .before .before .byte .ensures in
-    let high = c .before .before .small2 .ensures .0 ∙ c .before .before .before .byte2 .ensures in
-    let from = c .before .before .before .before .before .before .before .before .before .pre .3 in (
+    let low = d .before .before .before .small .ensures .0 ∙ d .before .before .before .before .byte .ensures in
+    let high = d .before .small2 .ensures .0 ∙ d .before .before .byte2 .ensures in
+    let from = s .pre .3 in (
       omega arith,
-      pair-more b (a .from) (a .v) _ _ (l .last) (l .k) (a .s) (l .t) _ _ from (c .before .before .before .before .before .before .before .before .before .pre .2) low high (l .inv .2) (l .inv .1) (c .before .also .ensures)
+      pair-more b (a .from) (a .v) _ _ (l .last) (l .k) _ (a .s) (l .t) _ _ from (s .pre .2) low high (l .inv .2) (c .before .pair-fine .ensures) (l .inv .1) (d .also .ensures)
           (c .also2 .ensures),
       last-turn b (a .from) _ _ (l .k) from low high,
     )
@@ -94,6 +99,7 @@ each-pair-spec =
     add-key
     add-also
     also-requires
+    pair-fine-requires
     also-requires-2
     add-k
     loop-less

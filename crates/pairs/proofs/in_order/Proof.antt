@@ -45,6 +45,9 @@ mul-key c = omega arith
 add-key : tie.Need-add-key Inv-loop μ-loop
 add-key c = omega arith
 
+pair-fine-requires : tie.Need-pair-fine-requires Inv-loop μ-loop
+pair-fine-requires c κs = search needs
+
 add-k : tie.Need-add-k Inv-loop μ-loop
 add-k c = omega arith
 
@@ -52,14 +55,16 @@ loop-less : tie.Need-loop-less Inv-loop μ-loop
 loop-less c = omega arith
 
 loop-again : tie.Need-loop-again Inv-loop μ-loop
-loop-again c = let l = c .before .before .before .before .before .loop in
-    let a = c .before .before .before .before .before .before .before .args in
+loop-again c = let d = c .before in
+    let l = d .before .before .before .before .before .loop in
+    let s = d .before .before .before .before .before .before .before in
+    let a = s .args in
     let b = now (a .b) in
-    let low = c .before .before .small .ensures .0 in
-    let high = c .small2 .ensures .0 in
-    let from = c .before .before .before .before .before .before .before .pre .3 in (
+    let low = d .before .before .small .ensures .0 in
+    let high = d .small2 .ensures .0 in
+    let from = s .pre .3 in (
       omega arith,
-      order-more b (a .from) (a .v) _ _ (l .last) (l .k) (l .ok) from (c .before .before .before .before .before .before .before .pre .2) low high (l .inv .2) (l .inv .1),
+      order-more b (a .from) (a .v) _ _ (l .last) (l .k) _ (l .ok) from (s .pre .2) low high (l .inv .2) (c .pair-fine .ensures) (l .inv .1),
       last-turn b (a .from) _ _ (l .k) from low high,
     )
 
@@ -85,6 +90,7 @@ in-order-spec =
     small-requires-2
     mul-key
     add-key
+    pair-fine-requires
     add-k
     loop-less
     loop-again
