@@ -12,7 +12,7 @@ use Rattle.refusal.specs.declared.Refusal.{Refusal}
 use Rattle.reading.specs.declared.Reading.{Reading}
 use Rattle.reading.specs.declared.Reading.the-variants.{Fine, Refused as Unread}
 use Rattle.reading.proofs.Must.{between-low, between-high}
-use Rattle.record.specs.Fields.{goalCount, textPlace, textLength}
+use Rattle.record.specs.Fields.{goalCount, goalPlace, textAt, textLengthAt, textPlace, textLength}
 use Rattle.record.specs.Reading.{reading}
 use Rattle.record.specs.WellFormed.{WellFormed}
 use Rattle.record.proofs.WellFormed.{fine-well-formed}
@@ -50,10 +50,11 @@ module _ (b : List ℕ) where
   unfolding goalText
   text-outside g e f t = rw (sym e ∙ f, t)
 
-  pub text-at : {s : Reading} {a n : ℕ} (g : ℕ) → s ≡ reading b → s ≡ Fine → leb 1 g && leb g (goalCount b) ≡ true → a ≡ textPlace b g → n ≡ textLength b g
-      → textValues (At (record { place = a; length = n })) ≡ goalText b g
-  unfolding goalText
-  text-at g e f t p q = rw (sym e ∙ f, t, p, q)
+  -- the text of the goal that starts at c
+  pub text-at : {s : Reading} {a c n : ℕ} (g : ℕ) → s ≡ reading b → s ≡ Fine → leb 1 g && leb g (goalCount b) ≡ true → c ≡ goalPlace b g → a ≡ textAt b c
+      → n ≡ textLengthAt b c → textValues (At (record { place = a; length = n })) ≡ goalText b g
+  unfolding goalText textPlace textLength
+  text-at g e f t h p q = rw (sym e ∙ f, t, p, q, h)
 
   -- an accepted record is well formed
   pub accepted : {s : Reading} → s ≡ reading b → s ≡ Fine → WellFormed b

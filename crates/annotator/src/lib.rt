@@ -178,8 +178,9 @@ pub fn find_text(bytes: &[u8], goal: u32) -> TextAnswer
         Reading::Fine => {
             let g = number_of(goal);
             if inside(g, goal_count(bytes)) {
-                let place = fields::text_place(bytes, g);
-                let length = fields::text_length(bytes, g);
+                let at = fields::goal_place(bytes, g);
+                let place = fields::text_at(bytes, at);
+                let length = fields::text_length_at(bytes, at);
                 return TextAnswer::At(Span { place, length });
             }
             TextAnswer::NoText(Refusal {

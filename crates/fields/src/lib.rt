@@ -126,21 +126,3 @@ pub fn goal_place(b: &[u8], g: usize) -> usize
 {
     place_after(b, g - 1)
 }
-
-// Where the text of goal g starts.
-pub fn text_place(b: &[u8], g: usize) -> usize
-    requires { ⌜ (1 ≤ g) × (g ≤ 32) ⌝ }
-    ensures { λ r. ⌜ r ≡ F.textPlace (now (b .entry)) g ⌝ }
-    ensures { λ r. ⌜ r < 2 ^ 14 ⌝ }
-{
-    text_at(b, goal_place(b, g))
-}
-
-// How many bytes the text of goal g has.
-pub fn text_length(b: &[u8], g: usize) -> usize
-    requires { ⌜ (1 ≤ g) × (g ≤ 32) ⌝ }
-    ensures { λ r. ⌜ r ≡ F.textLength (now (b .entry)) g ⌝ }
-    ensures { λ r. ⌜ r < 256 ⌝ }
-{
-    text_length_at(b, goal_place(b, g))
-}

@@ -1,7 +1,8 @@
 // Reading a clause record, version 1. Plain tests tell that nothing is refused of a part; the first part of which something is refused is checked step by
 // step, in the paper's sequence, for its refusal. The definitions stand in the crates `fields` and `reading`; `header`, `goals` and `pairs` hold the parts.
-pub use fields::text_length;
-pub use fields::text_place;
+pub use fields::goal_place;
+pub use fields::text_at;
+pub use fields::text_length_at;
 pub use reading::Reading;
 ghost use mathlib.Core.Path.{_≡_};
 ghost use Prim.Native.Nat.{_+_, _<_, _≤_, _^_};

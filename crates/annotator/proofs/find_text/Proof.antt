@@ -1,4 +1,5 @@
 use mathlib.Core.Path.{ap, _∙_}
+use native.Mathlib.Omega.{arith}
 use Rattle.annotator.specs.Answers.{goalText}
 use Rattle.annotator.proofs.Answers.{accepted, tested, in-range, text-at, text-refused, text-outside}
 use borrow.Author.Needs.{needs}
@@ -9,8 +10,9 @@ use Rattle.annotator.proofs.find_text.Lts as lts
 use Rattle.annotator.proofs.goal_count.Reads as goal-count-reads
 use Rattle.annotator.proofs.inside.Reads as inside-reads
 use Rattle.annotator.proofs.number_of.Reads as number-of-reads
-use Rattle.fields.proofs.text_length.Reads as text-length-reads
-use Rattle.fields.proofs.text_place.Reads as text-place-reads
+use Rattle.fields.proofs.goal_place.Reads as goal-place-reads
+use Rattle.fields.proofs.text_at.Reads as text-at-reads
+use Rattle.fields.proofs.text_length_at.Reads as text-length-at-reads
 use Rattle.record.proofs.read.Reads as read-reads
 
 -- src/lib.rt:82:11
@@ -34,24 +36,24 @@ goal-count-requires c κs = search needs
 inside-requires : tie.Need-inside-requires
 inside-requires c κs = search needs
 
-text-place-requires : tie.Need-text-place-requires
-text-place-requires c κs =
+goal-place-requires : tie.Need-goal-place-requires
+goal-place-requires c κs =
     let b = c .before .before .before .before .before .before .before .before .args .bytes .now in
     let g = c .before .before .before .number-of .result in
     in-range b g (accepted b (c .before .before .before .before .before .before .read .ensures) (c .before .before .before .before .enum-told .given .1)) (tested b g (c .before .inside .ensures) (c .if1 .taken) (c .before .before .goal-count .ensures))
 
-text-length-requires : tie.Need-text-length-requires
-text-length-requires c κs =
-    let b = c .before .before .before .before .before .before .before .before .before .args .bytes .now in
-    let g = c .before .before .before .before .number-of .result in
-    in-range b g (accepted b (c .before .before .before .before .before .before .before .read .ensures) (c .before .before .before .before .before .enum-told .given .1)) (tested b g (c .before .before .inside .ensures) (c .before .if1 .taken) (c .before .before .before .goal-count .ensures))
+text-at-requires : tie.Need-text-at-requires
+text-at-requires c κs = omega (arith, c .goal-place .ensures .1)
+
+text-length-at-requires : tie.Need-text-length-at-requires
+text-length-at-requires c κs = omega (arith, c .before .goal-place .ensures .1)
 
 returns : tie.Need-returns
 returns c =
-    let b = c .before .before .before .before .before .before .before .before .before .before .args .bytes .now in
-    let g = c .before .before .before .before .before .number-of .result in
-    text-at b g (c .before .before .before .before .before .before .before .before .read .ensures) (c .before .before .before .before .before .before .enum-told .given .1) (tested b g (c .before .before .before .inside .ensures) (c .before .before .if1 .taken) (c .before .before .before .before .goal-count .ensures)) (c .before .text-place .ensures .0) (c .text-length .ensures .0)
-    ∙ ap (goalText b) (c .before .before .before .before .before .number-of .ensures)
+    let b = c .before .before .before .before .before .before .before .before .before .before .before .args .bytes .now in
+    let g = c .before .before .before .before .before .before .number-of .result in
+    text-at b g (c .before .before .before .before .before .before .before .before .before .read .ensures) (c .before .before .before .before .before .before .before .enum-told .given .1) (tested b g (c .before .before .before .before .inside .ensures) (c .before .before .before .if1 .taken) (c .before .before .before .before .before .goal-count .ensures)) (c .before .before .goal-place .ensures .0) (c .before .text-at .ensures) (c .text-length-at .ensures .0)
+    ∙ ap (goalText b) (c .before .before .before .before .before .before .number-of .ensures)
 
 returns-2 : tie.Need-returns-2
 returns-2 c = text-refused _ _ _ (c .before .before .before .read .ensures) (c .before .r .given .1)
@@ -73,8 +75,9 @@ find-text-spec =
     number-of-requires
     goal-count-requires
     inside-requires
-    text-place-requires
-    text-length-requires
+    goal-place-requires
+    text-at-requires
+    text-length-at-requires
     returns
     returns-2
     returns-3)
