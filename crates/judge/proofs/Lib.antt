@@ -1,3 +1,4 @@
 pub mod CommonRow
 pub mod ClearSet
 pub mod Listed
+pub mod Grounded

@@ -6,18 +6,19 @@ use Prim.Native.Nat.{ℕ, zero, suc, _+_, _-_, _≤_, _<_}
 use native.Mathlib.Omega.{arith}
 use lib.Dec.{ltb}
 use lib.ListN.{getD, set, replicate}
+use lib.Pow.{pow-pos}
 use borrow.Author.Tests.{ltb-true}
 use Rattle.logic.proofs.Bools.{and-l}
-use Rattle.sets.specs.Sets.{has, without, below, first}
+use Rattle.sets.specs.Sets.{has, without, below, subset, first}
 use Rattle.arrays.proofs.Table.{table-at}
 use Rattle.graph.specs.Graph.{goalsOf, rowsOf, Within}
 use Rattle.graph.proofs.Rows.{rows-within}
 use Rattle.judge.specs.ByRows.{waitsBy}
 use Rattle.closure.specs.Closing.{Rising, Closed, closing, reached}
 use Rattle.closure.proofs.Chains.{rows-rise, above, above-none, above-turn, above-all, above-closed}
-use Rattle.closure.proofs.Visits.{Visited, visit-none, first-inside}
+use Rattle.closure.proofs.Visits.{Visited, visit-none, visit-all, first-inside}
 use Rattle.order.specs.Arrays.{waitsAt, waitRow, waitRows}
-use Rattle.order.proofs.Waits.{row-has, row-behind, behind-out, behind-small}
+use Rattle.order.proofs.Waits.{row-has, row-behind, row-empty, behind-out, behind-small}
 
 -- ---- one row
 module _ (ground free : ℕ) (goals pairs rows : List ℕ) (n i : ℕ) where
@@ -27,6 +28,12 @@ module _ (ground free : ℕ) (goals pairs rows : List ℕ) (n i : ℕ) where
 
   pub judging-none : n ≤ 32 → Judging 0 (without (below n) (below (i + 1)))
   judging-none h = visit-none rows (waitRow ground free goals pairs n i) (without (below n) (below (i + 1))) (behind-small n i h) (row-behind ground free goals pairs i n)
+
+  -- where goal i + 1 has ground variables alone
+  pub row-ground : subset (getD goals i 0) ground ≡ true → 0 ≡ reached rows (waitRow ground free goals pairs n i)
+  row-ground s =
+      visit-all rows (waitRow ground free goals pairs n i) 0 0 0
+      (visit-none rows (waitRow ground free goals pairs n i) 0 (pow-pos 32) (row-empty ground free goals pairs i n s)) refl
 
   module _ (all left : ℕ) (v : Judging all left) (some : left ≡ 0 → ⊥) (k : ℕ) (e : k ≡ first 32 left) where
     pub first-behind : (i < k) × (k < n)

@@ -13,10 +13,11 @@ use lib.ListN.{getD}
 use lib.Pow.{pow-pos, pow-lt, pow-mono}
 use borrow.Author.Tests.{lt-ltb, le-ltb, ltb-true}
 use Rattle.logic.proofs.Bools.{and-l, and-r, not-true}
-use Rattle.sets.specs.Sets.{has, union, without, single, below}
+use Rattle.sets.specs.Sets.{has, union, without, single, below, subset}
 use Rattle.sets.proofs.Laws.{has-empty, has-without, has-below}
 use Rattle.sets.proofs.Builder.{setOf-ext, setOf-more, setOf-lt, has-setOf, has-setOf-in, without-lt}
 use Rattle.judge.specs.ByRows.{waitsBy}
+use Rattle.judge.proofs.Grounded.{none-waits}
 use Rattle.order.specs.Arrays.{waitsAt, waitRow}
 
 module _ (ground free : ℕ) (goals rows : List ℕ) (i : ℕ) where
@@ -61,6 +62,14 @@ module _ (ground free : ℕ) (goals rows : List ℕ) (i : ℕ) where
       let l = ltb-true i j (and-l (ltb i j) (waitsBy ground free rows 64 (getD goals i 0) (getD goals j 0)) (and-r (ltb j n) (waitsAt ground free goals rows i j) t)) in
       has-without (below n) (below (i + 1)) j
       ∙ ap₂ (λ (p q : Bool). p && not q) (has-below n j ∙ lt-ltb j n h) (has-below (i + 1) j ∙ le-ltb j (i + 1) (omega arith))
+
+  -- no goal waits for goal i + 1 if it has ground variables alone
+  pub row-empty : (n : ℕ) → subset (getD goals i 0) ground ≡ true → (j : ℕ) → has (waitRow ground free goals rows n i) j ≡ true → has 0 j ≡ true
+  unfolding waitRow
+  row-empty n s j e =
+      let t = sym (has-setOf n (λ j. waitsAt ground free goals rows i j) j) ∙ e in
+      let w = waitsBy ground free rows 64 (getD goals i 0) (getD goals j 0) in
+      absurd (false≢true (sym (none-waits ground free rows 64 (getD goals i 0) (getD goals j 0) s) ∙ and-r (ltb i j) w (and-r (ltb j n) (waitsAt ground free goals rows i j) t)))
 
 -- the goals behind goal i + 1
 pub behind-out : (n i j : ℕ) → has (without (below n) (below (i + 1))) j ≡ true → (i < j) × (j < n)

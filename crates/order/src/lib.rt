@@ -105,6 +105,24 @@ fn row_at(
     closed_row(i, n, ground, 0, goals, pairs, rows)
 }
 
+// The same, told at once for a goal that has ground variables alone: no goal waits for it.
+fn row_of(
+    i: usize,
+    n: usize,
+    ground: u64,
+    goals: &[u64; 32],
+    pairs: &[u64; 64],
+    rows: &[u32; 32],
+) -> u32
+    requires { ⌜ (i < n) × (n ≤ 32) × C.Closed (now rows) ⌝ }
+    ensures { λ r. ⌜ r ≡ C.reached (now (rows .entry)) (W.waitRow ground 0 (now (goals .entry)) (now (pairs .entry)) n i) ⌝ }
+{
+    if sets::subset(goals[i], ground) {
+        return 0;
+    }
+    row_at(i, n, ground, goals, pairs, rows)
+}
+
 // The closure of the waits of n goals, as a new graph: from the last goal down, each row by the rows behind it.
 fn close(n: usize, ground: u64, goals: &[u64; 32], pairs: &[u64; 64]) -> Graph
     requires { ⌜ n ≤ 32 ⌝ }
@@ -114,7 +132,7 @@ fn close(n: usize, ground: u64, goals: &[u64; 32], pairs: &[u64; 64]) -> Graph
     let mut k = n;
     while k > 0 {
         k -= 1;
-        closed.rows[k] = row_at(k, n, ground, goals, pairs, &closed.rows);
+        closed.rows[k] = row_of(k, n, ground, goals, pairs, &closed.rows);
     }
     closed
 }

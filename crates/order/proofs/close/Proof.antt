@@ -30,8 +30,8 @@ loop-holds c =
 sub-k : tie.Need-sub-k Inv-loop μ-loop
 sub-k c = search needs
 
-row-at-requires : tie.Need-row-at-requires Inv-loop μ-loop
-row-at-requires c κs =
+row-of-requires : tie.Need-row-of-requires Inv-loop μ-loop
+row-of-requires c κs =
     let s = c .before .before .before .before .before in
     let a = s .args in
     let l = c .before .before .before .loop in
@@ -53,7 +53,7 @@ loop-again c =
     let l = c .before .before .before .before .loop in (
       omega arith,
       l .inv .1,
-      close-turn (a .n) (a .ground) (now (a .goals)) (now (a .pairs)) (s .pre) (l .k) (c .row-at .result) (l .closed .rows) (omega arith) (l .inv .0) (l .inv .2) (c .row-at .ensures),
+      close-turn (a .n) (a .ground) (now (a .goals)) (now (a .pairs)) (s .pre) (l .k) (c .row-of .result) (l .closed .rows) (omega arith) (l .inv .0) (l .inv .2) (c .row-of .ensures),
     )
 
 returns : tie.Need-returns Inv-loop μ-loop
@@ -74,7 +74,7 @@ close-spec =
     empty-requires
     loop-holds
     sub-k
-    row-at-requires
+    row-of-requires
     mul-closed
     element-write-closed
     loop-less
