@@ -109,3 +109,7 @@ module _ (rows : List ℕ) (w : ℕ) where
         and-assoc : (p q r : Bool) → (p && q) && r ≡ p && (q && r)
         and-assoc true q r = refl
         and-assoc false q r = refl
+
+    -- where nothing is left with the lowest variable, nothing is with all
+    pub common-none : (c : ℕ) → c < 2 ^ w → meet c (getD rows (first w m) 0) ≡ 0 → 0 ≡ meet c (common rows w m)
+    common-none c k e = ap (λ (t : ℕ). meet t (common rows w (without m (single (first w m))))) (sym e) ∙ common-more c k

@@ -12,6 +12,9 @@ fn common(set: u64, rows: &[u64; 64]) -> u64
     while rest != 0 {
         let x = sets::first(rest);
         all = sets::meet(all, rows[x as usize]);
+        if all == 0 {
+            return 0;
+        }
         rest = sets::without_first(rest);
     }
     all
