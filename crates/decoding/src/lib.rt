@@ -86,9 +86,13 @@ pub fn read(b: &[u8], goals: &mut [u64; 32], rows: &mut [u64; 64]) -> Reading
     ensures { λ r. ⌜ r ≡ R.reading (now (b .entry)) ⌝ }
     ensures { λ r. ⌜ D.Decoded (now (b .entry)) r (now (goals .exit)) (now (rows .exit)) ⌝ }
 {
-    if header::header_fine(b) {
-        if rest(b, goals, rows) {
-            return Reading::Fine;
+    if header::size_fine(b) {
+        let head = fields::whole_set(b, 8);
+        let ground = fields::whole_set(b, 16);
+        if header::header_fine(b, head, ground) {
+            if rest(b, goals, rows) {
+                return Reading::Fine;
+            }
         }
     }
     record::read(b)

@@ -8,7 +8,8 @@ ghost use Rattle.fields.specs.Fields as F;
 ghost use Rattle.reading.specs.Reading as R;
 ghost use Rattle.reading.specs.Fine as D;
 
-fn size_fine(b: &[u8]) -> bool
+// Whether there are as many bytes as a header has.
+pub fn size_fine(b: &[u8]) -> bool
     ensures { λ r. ⌜ r ≡ leb 24 (length (now (b .entry))) ⌝ }
 {
     24 <= b.len()
@@ -68,15 +69,11 @@ fn counts_fine(b: &[u8]) -> bool
     size_fine(b) & mark_fine(b) & version_fine(b) & goals_fine(b) & variables_fine(b)
 }
 
-// Whether nothing of the header is refused.
-pub fn header_fine(b: &[u8]) -> bool
+// Whether nothing of the header is refused; `head` and `ground` are its sets, read by the caller, so that this is small and costs no call.
+pub fn header_fine(b: &[u8], head: u64, ground: u64) -> bool
+    requires { ⌜ (head ≡ F.set (now b) 8) × (ground ≡ F.set (now b) 16) ⌝ }
     ensures { λ r. ⌜ r ≡ D.headerFine (now (b .entry)) ⌝ }
 {
-    if size_fine(b) {
-        let v = fields::small(fields::byte(b, 6));
-        let head = fields::whole_set(b, 8);
-        let ground = fields::whole_set(b, 16);
-        return counts_fine(b) & sets::within(head, v) & sets::subset(ground, head);
-    }
-    false
+    let v = fields::small(fields::byte(b, 6));
+    counts_fine(b) & sets::within(head, v) & sets::subset(ground, head)
 }

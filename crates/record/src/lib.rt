@@ -34,8 +34,12 @@ fn rest(b: &[u8]) -> Reading
 pub fn read(b: &[u8]) -> Reading
     ensures { λ r. ⌜ r ≡ R.reading (now (b .entry)) ⌝ }
 {
-    if header::header_fine(b) {
-        return rest(b);
+    if header::size_fine(b) {
+        let head = fields::whole_set(b, 8);
+        let ground = fields::whole_set(b, 16);
+        if header::header_fine(b, head, ground) {
+            return rest(b);
+        }
     }
     header::header(b)
 }
