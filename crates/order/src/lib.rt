@@ -128,13 +128,13 @@ fn close(n: usize, ground: u64, goals: &[u64; 32], pairs: &[u64; 64]) -> Graph
     requires { ⌜ n ≤ 32 ⌝ }
     ensures { λ r. ⌜ r ≡ C.closing (W.waitRows n ground (now (goals .entry)) (now (pairs .entry))) ⌝ }
 {
-    let mut closed = Graph::empty(n);
+    let mut rows = [0u32; Graph::MAX];
     let mut k = n;
     while k > 0 {
         k -= 1;
-        closed.rows[k] = row_of(k, n, ground, goals, pairs, &closed.rows);
+        rows[k] = row_of(k, n, ground, goals, pairs, &rows);
     }
-    closed
+    Graph { n, rows }
 }
 
 // The order of a record.

@@ -115,7 +115,7 @@ module _ (after prior : List ℕ) where
     pub c-ordered : Ordered after prior c
     c-ordered = ordered-part c-part x (m .start) rest-ordered
 
-    pub c-lt : c < 2 ^ 32
+    c-lt : c < 2 ^ 32
     c-lt = part-lt 32 c set (λ g p. part g (c-part g p)) l
 
     pub rest-less : (rest < 2 ^ 32) → count (without rest c) < count rest

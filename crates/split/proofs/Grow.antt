@@ -120,6 +120,25 @@ module _ (after prior : List ℕ) (k : Bool) (set : ℕ) (turned : Turned after 
           smallest = λ Q q c g e. w .smallest Q q c g (without-l set left g e) (without-r set left g e);
         }
 
+    -- a goal that nothing hangs together with is a component alone
+    pub grow-alone : Has set (suc x) → {one rest fresh : ℕ} → one ≡ single x → rest ≡ without set one → fresh ≡ hanging after prior k rest x → fresh ≡ 0
+        → Component R k (Has set) (suc x) (Has one)
+    grow-alone h {one} {rest} {fresh} eo er ef z =
+        let only : (g : ℕ) → Has one g → g ≡ suc x = λ g e. single-goal x g (ap (λ (m : ℕ). hasGoal m g) (sym eo) ∙ e) in
+        record {
+          inside = λ g e. subst (Has set) (sym (only g e)) h;
+          start = ap (λ (m : ℕ). hasGoal m (suc x)) eo ∙ goal-single x;
+          closed =
+              λ g j e s t.
+              ⊎-elim (λ (d : Has one j). d)
+              (λ (d : hasGoal one j ≡ false).
+              clash
+              (hanging-in rest x j h s (ap (λ (m : ℕ). hasGoal m j) er ∙ without-i set one j s d) (ap (λ (m : ℕ). tie R m j) (sym (only g e)) ∙ t))
+              (ap (λ (m : ℕ). hasGoal m j) (sym ef ∙ z) ∙ goal-none j))
+              (test (hasGoal one j));
+          smallest = λ Q q c g e. ap Q (only g e) ∙ q;
+        }
+
     -- the neighbours of one goal more
     module _ {left todo : ℕ} (w : Growing after k set x left todo) (i : ℕ) (u : Has todo (suc i)) where
       abbrev fresh : ℕ

@@ -7,12 +7,12 @@ use Prim.Native.Nat.{ℕ, suc, _+_, _/_, _%_, _^_, _≤_, _<_}
 use native.Mathlib.Omega.{arith}
 use lib.Dec.{ltb, eqb}
 use lib.ListN.{length, length-append}
-use borrow.Author.Tests.{eq-eqb, ne-eqb, eqb-true}
-use Rattle.sets.specs.Sets.{has, without, first, single, count}
+use borrow.Author.Tests.{eq-eqb, ne-eqb}
+use Rattle.sets.specs.Sets.{without, first, count}
 use Rattle.text.specs.Text.{Wrote, decimal, only, pickText}
-use Rattle.text.proofs.Laws.{then, recast, Left, start, onward, finish, left-kept}
+use Rattle.text.proofs.Laws.{then, Left, start, onward, finish, left-kept}
 use Rattle.graph.specs.Graph.{hasGoal, ahead}
-use Rattle.graph.proofs.Goals.{goal-none, Part, lowest-in}
+use Rattle.graph.proofs.Goals.{goal-none, Part}
 use Rattle.expression.specs.Expr.{Expr, goal, join, Members, more}
 use Rattle.expression.specs.Split.{Component, Starts}
 use Rattle.expression.specs.Text.{number, mark, inner, run, text}
@@ -21,9 +21,9 @@ use Rattle.expression.proofs.Fits.{firstM, firstM-in}
 use Rattle.expression.proofs.Split.{FormM, form-members}
 use Rattle.split.specs.Split.{Has, Ordered, formOf, formText}
 use Rattle.split.proofs.Grow.{clash}
-use Rattle.split.proofs.Forms.{Taken, last, next, take, member-less, rest-part, ordered-part, starts-ahead, c-ordered, c-lt, rest-less, form-goal}
+use Rattle.split.proofs.Forms.{Taken, last, next, take, member-less, rest-part, ordered-part, starts-ahead, c-ordered, rest-less}
 use Rattle.split.specs.Hang.{behind}
-use Rattle.sets.proofs.Laws.{has-single, first-member}
+use Rattle.sets.proofs.Laws.{first-member}
 use Rattle.sets.proofs.Members.{first-in}
 
 -- a number as both texts have it
@@ -37,7 +37,7 @@ number-is x = go (ltb x 10)
 
 module _ (after : List ℕ) (set : ℕ) (nested : Bool) where
   -- the text of a goal
-  text-goal : (g : ℕ) → formOf after set ≡ goal g → decimal g ≡ formText nested after set
+  pub text-goal : (g : ℕ) → formOf after set ≡ goal g → decimal g ≡ formText nested after set
   unfolding formText
   text-goal g e = number-is g ∙ go nested ∙ sym (ap₂ (λ (x y : Expr). cond nested (inner x) (text y)) e e)
     where
@@ -57,28 +57,6 @@ module _ (after : List ℕ) (set : ℕ) (nested : Bool) where
       go : (b : Bool) → only b 40 ++ (text (join k a ms) ++ only b 41) ≡ cond b (inner (join k a ms)) (text (join k a ms))
       go true = refl
       go false = append-nil (text (join k a ms))
-
--- Of a set that is not empty: its lowest goal less one, and the goal that it has alone, less one, as they are computed.
-module _ {after prior : List ℕ} {set : ℕ} (l : set < 2 ^ 32) (o : Ordered after prior set) (x : ℕ) where
-  pub under : x ≡ first 32 set → x < 32
-  under f = omega (arith, f, lowest-in 32 set l (o .some .0) (o .some .1))
-
-  alone : {s : ℕ} → s ≡ single x → s ≡ set → x ≡ first 32 set
-  alone p q =
-      eqb-true x (first 32 set)
-      (sym (has-single x (first 32 set)) ∙ ap (λ (m : ℕ). has m (first 32 set)) (sym p ∙ q) ∙ first-member 32 set (lowest-in 32 set l (o .some .0) (o .some .1)))
-
-  -- a goal's number is written
-  pub goal-wrote : {s : ℕ} → s ≡ single x → s ≡ set → (nested : Bool) {at e : ℕ} {old new : List ℕ} → Wrote (decimal (x + 1)) at old e new
-      → Wrote (formText nested after set) at old e new
-  goal-wrote p q nested w =
-      let f = alone p q in
-      let e : suc (first 32 set) ≡ x + 1 = omega (arith, f) in
-      recast (text-goal after set nested (x + 1) (form-goal after prior set l o (ap single (sym f) ∙ sym p ∙ q) ∙ ap goal e)) w
-
--- where it ends is said another way
-pub landed : {t : List ℕ} {at e f : ℕ} {old new other : List ℕ} → f ≡ e → other ≡ new → Wrote t at old e new → Wrote t at old f other
-landed p q w = record { place = p ∙ w .place; bytes = q ∙ w .bytes }
 
 joined : (i r z : List ℕ) (m : ℕ) → i ++ (m ∷ r) ++ z ≡ i ++ (m ∷ []) ++ (r ++ z)
 joined i r z m = append-assoc i (m ∷ r) z ∙ sym (append-assoc i (m ∷ []) (r ++ z))
@@ -191,7 +169,6 @@ module _ (after prior : List ℕ) (k nested : Bool) (set : ℕ) where
 
 -- What one turn of the loop, with the component c of a goal x that starts what is left, does.
 pub record Step (after prior : List ℕ) (k nested : Bool) (set from : ℕ) (old : List ℕ) (rest at : ℕ) (new : List ℕ) (c : ℕ) : Type 0 where
-  pub small : c < 2 ^ 32
   pub ordered : Ordered after prior c
   pub fewer : count c < count set
   pub less : count (without rest c) < count rest
@@ -207,7 +184,6 @@ step after prior k nested set {from = from} {old = old} {rest = rest} l lr o a m
     let s′ = starts-ahead after prior (ordered-part after prior (w .part) x h o) h s in
     let t = turn after prior k nested set w l o c x h m s′ in
     record {
-      small = c-lt after prior l (w .part) o h m;
       ordered = c-ordered after prior l (w .part) o h m;
       fewer = t .fewer a ms e;
       less = rest-less after prior l (w .part) o h m lr;

@@ -43,6 +43,9 @@ fn component(after: &[u32; 32], prior: &[u32; 32], k: bool, set: u32, x: usize) 
     let start = sets::single32(x);
     let rest = sets::without32(set, start);
     let first = hanging(after, prior, k, rest, x);
+    if first == 0 {
+        return start;
+    }
     let mut left = sets::without32(rest, first);
     let mut todo = pending(first, left);
     while todo != 0 {
@@ -105,8 +108,7 @@ fn mark(k: bool) -> u8
     if k { b',' } else { b'&' }
 }
 
-// Writes the text of the set's house form from place `at`: in parentheses if it is nested in another, unless it is a goal. A goal is written as its
-// number; on every larger member the function calls itself.
+// Writes the text of the set's house form from place `at`: in parentheses if it is nested in another, unless it is a goal. It calls itself on each member.
 pub fn put_form(
     out: &mut [u8],
     at: usize,
@@ -129,12 +131,7 @@ pub fn put_form(
     while rest != 0 {
         let m = member(after, prior, k, rest);
         let c = m.goals;
-        let g = m.start;
-        if sets::single32(g) == c {
-            o = text::put_number(out, o, (g + 1) as u8);
-        } else {
-            o = put_form(out, o, after, prior, c, true);
-        }
+        o = put_form(out, o, after, prior, c, true);
         rest = sets::without32(rest, c);
         o = text::put_if(out, o, sep, rest != 0);
     }

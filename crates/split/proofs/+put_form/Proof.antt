@@ -3,19 +3,18 @@ use native.Mathlib.Omega.{arith}
 use mathlib.Core.Path.{_≡_, sym, ap, _∙_, subst}
 use Prim.Native.Nat.{suc, _+_, _^_}
 use lib.Dec.{eqb}
-use mathlib.Core.Bool.{true, false, not}
-use mathlib.Core.Logic.{⊎-elim}
+use mathlib.Core.Bool.{false, not}
 use lib.ListN.{length, length-append}
-use Rattle.sets.specs.Sets.{count, single}
-use Rattle.text.specs.Text.{Wrote, only}
+use Rattle.sets.specs.Sets.{count, first, single}
+use Rattle.text.specs.Text.{only}
 use Rattle.text.proofs.Laws.{then, recast, kept}
-use Rattle.expression.specs.Expr.{Expr, Members, join}
+use Rattle.expression.specs.Expr.{Expr, goal, Members, join}
 use Rattle.expression.specs.Split.{Component}
 use Rattle.graph.specs.Graph.{hasGoal, ahead}
-use Rattle.graph.proofs.Goals.{part-lt, lowest-has}
-use Rattle.split.specs.Split.{Has, Ordered, formOf, formText}
-use Rattle.split.proofs.Forms.{ordered-part, ordered-behind, form-of, form-join}
-use Rattle.split.proofs.Writing.{Going, body, under, goal-wrote, landed, text-join, go-start, go-end, Step, step, some-goal}
+use Rattle.graph.proofs.Goals.{part-lt, lowest-in, lowest-has}
+use Rattle.split.specs.Split.{Has, Ordered, formOf}
+use Rattle.split.proofs.Forms.{ordered-part, ordered-behind, form-of, form-goal, form-join}
+use Rattle.split.proofs.Writing.{Going, body, text-goal, text-join, go-start, go-end, Step, step, some-goal}
 use Prim.Native.Nat.{ℕ, _<_}
 use borrow.Fn.Kinds.{In}
 use borrow.Fn.PlainCycle.{Measures, is, falls, and}
@@ -54,11 +53,11 @@ abbrev put-form-μ-loop : put-form-lts.MeasureT-loop
 put-form-μ-loop out₀ at after prior set nested x k sep o₀ rest₀ out o rest = count rest
 
 -- the lowest goal, less one
-low : (t : ℕ) (c : put-form-lts.After-first32 (put-form-K t) (put-form-at t) put-form.Post put-form-Inv-loop put-form-μ-loop) → c .first32 .result < 32
-low t c =
+under : (t : ℕ) (c : put-form-lts.After-first32 (put-form-K t) (put-form-at t) put-form.Post put-form-Inv-loop put-form-μ-loop) → c .first32 .result < 32
+under t c =
     let s = c .before .before in
     let l : s .args .set < 2 ^ 32 = search needs in
-    under l (s .pre .1 .0) _ (c .first32 .ensures)
+    omega (arith, c .first32 .ensures, lowest-in 32 _ l (s .pre .1 .0 .some .0) (s .pre .1 .0 .some .1))
 
 low-has : (t : ℕ) (c : put-form-lts.After-first32 (put-form-K t) (put-form-at t) put-form.Post put-form-Inv-loop put-form-μ-loop) → Has (c .before .before .args .set) (suc (c .first32 .result))
 low-has t c =
@@ -117,34 +116,20 @@ a-step t c =
     let f = c .member .ensures in
     step _ _ _ _ _ l r (s .pre .1 .0) (j .0) (j .1) (j .2) (c .before .before .loop .inv) _ _ (f .0 .1) (f .1 .0) (f .1 .1)
 
--- the member's start
-low-2 : (t : ℕ) (c : put-form-lts.After-member (put-form-K t) (put-form-at t) put-form.Post put-form-Inv-loop put-form-μ-loop) → c .member .result .start < 32
-low-2 t c = c .member .ensures .0 .0
-
--- the member is written, as a number or by the function itself
-wrote : (t : ℕ) (c : put-form-lts.Joined2 (put-form-K t) (put-form-at t) put-form.Post put-form-Inv-loop put-form-μ-loop) →
-    let l = c .before .before .before .before .loop in
-    Wrote (formText true (c .before .before .before .before .before .before .before .before .before .before .before .before .before .before .before .args .after .now) (c .before .before .member .result .goals)) (l .o) (l .out) (c .if2 .o) (c .if2 .out)
-wrote t c =
-    let w = a-step t (c .before .before) in
-    ⊎-elim
-    (λ v. landed (v .6) (v .5) (goal-wrote (w .small) (w .ordered) _ (c .before .single322 .ensures) (v .0 .taken) true (v .2 .ensures)))
-    (λ v. landed (v .6) (v .5) (v .2 .ensures)) (c .if2 .came)
-
 put-form-first32-requires : (t : ℕ) → put-form-lts.Need-first32-requires (put-form-K t) (put-form-at t) put-form.Post put-form-Inv-loop put-form-μ-loop
 put-form-first32-requires t c κs = search needs
 
 put-form-single32-requires : (t : ℕ) → put-form-lts.Need-single32-requires (put-form-K t) (put-form-at t) put-form.Post put-form-Inv-loop put-form-μ-loop
-put-form-single32-requires t c κs = low t c
+put-form-single32-requires t c κs = under t c
 
 put-form-add-put-number : (t : ℕ) → put-form-lts.Need-add-put-number (put-form-K t) (put-form-at t) put-form.Post put-form-Inv-loop put-form-μ-loop
-put-form-add-put-number t c = let u : c .before .before .before .first32 .result < 32 = low t (c .before .before .before) in search needs
+put-form-add-put-number t c = let u : c .before .before .before .first32 .result < 32 = under t (c .before .before .before) in search needs
 
 put-form-cast-put-number : (t : ℕ) → put-form-lts.Need-cast-put-number (put-form-K t) (put-form-at t) put-form.Post put-form-Inv-loop put-form-μ-loop
-put-form-cast-put-number t c = let u : c .before .before .before .first32 .result < 32 = low t (c .before .before .before) in search needs
+put-form-cast-put-number t c = let u : c .before .before .before .first32 .result < 32 = under t (c .before .before .before) in search needs
 
 put-form-put-number-requires : (t : ℕ) → put-form-lts.Need-put-number-requires (put-form-K t) (put-form-at t) put-form.Post put-form-Inv-loop put-form-μ-loop
-put-form-put-number-requires t c κs = (omega (arith, low t (c .before .before .before)), omega (arith, c .before .before .before .before .before .pre .1 .1))
+put-form-put-number-requires t c κs = (omega (arith, under t (c .before .before .before)), omega (arith, c .before .before .before .before .before .pre .1 .1))
 
 put-form-same-length : (t : ℕ) → put-form-lts.Need-same-length (put-form-K t) (put-form-at t) put-form.Post put-form-Inv-loop put-form-μ-loop
 put-form-same-length t c = search needs
@@ -153,10 +138,13 @@ put-form-returns : (t : ℕ) → put-form-lts.Need-returns (put-form-K t) (put-f
 put-form-returns t c =
     let s = c .before .before .before .before .before .before .before .before in
     let l : s .args .set < 2 ^ 32 = search needs in
-    goal-wrote l (s .pre .1 .0) _ (c .before .before .before .before .before .single32 .ensures) (c .before .before .before .before .if1 .taken) (s .args .nested) (c .before .before .put-number .ensures)
+    let fi = c .before .before .before .before .before .before .first32 .ensures in
+    let f = form-goal (s .args .after .now) (s .args .prior .now) (s .args .set) l (s .pre .1 .0) (ap single (sym fi) ∙ sym (c .before .before .before .before .before .single32 .ensures) ∙ c .before .before .before .before .if1 .taken) in
+    let e : suc (first 32 (s .args .set)) ≡ c .before .before .before .before .before .before .first32 .result + 1 = omega (arith, fi) in
+    recast (text-goal (s .args .after .now) (s .args .set) (s .args .nested) _ (f ∙ ap goal e)) (c .before .before .put-number .ensures)
 
 put-form-component-requires : (t : ℕ) → put-form-lts.Need-component-requires (put-form-K t) (put-form-at t) put-form.Post put-form-Inv-loop put-form-μ-loop
-put-form-component-requires t c κs = (low t (c .before .before), low-has t (c .before .before), c .before .before .before .before .pre .1 .0 .turned)
+put-form-component-requires t c κs = (under t (c .before .before), low-has t (c .before .before), c .before .before .before .before .pre .1 .0 .turned)
 
 put-form-mark-requires : (t : ℕ) → put-form-lts.Need-mark-requires (put-form-K t) (put-form-at t) put-form.Post put-form-Inv-loop put-form-μ-loop
 put-form-mark-requires t c κs = search needs
@@ -174,37 +162,25 @@ put-form-loop-holds t c =
 put-form-member-requires : (t : ℕ) → put-form-lts.Need-member-requires (put-form-K t) (put-form-at t) put-form.Post put-form-Inv-loop put-form-μ-loop
 put-form-member-requires t c κs = (ordered-behind _ _ (rest-ordered t c), rest-ordered t c .turned, rest-some t c)
 
-put-form-single32-requires-2 : (t : ℕ) → put-form-lts.Need-single32-requires-2 (put-form-K t) (put-form-at t) put-form.Post put-form-Inv-loop put-form-μ-loop
-put-form-single32-requires-2 t c κs = low-2 t c
-
-put-form-add-put-number-2 : (t : ℕ) → put-form-lts.Need-add-put-number-2 (put-form-K t) (put-form-at t) put-form.Post put-form-Inv-loop put-form-μ-loop
-put-form-add-put-number-2 t c = let u : c .before .before .before .member .result .start < 32 = low-2 t (c .before .before .before) in search needs
-
-put-form-cast-put-number-2 : (t : ℕ) → put-form-lts.Need-cast-put-number-2 (put-form-K t) (put-form-at t) put-form.Post put-form-Inv-loop put-form-μ-loop
-put-form-cast-put-number-2 t c = let u : c .before .before .before .member .result .start < 32 = low-2 t (c .before .before .before) in search needs
-
-put-form-put-number-requires-2 : (t : ℕ) → put-form-lts.Need-put-number-requires-2 (put-form-K t) (put-form-at t) put-form.Post put-form-Inv-loop put-form-μ-loop
-put-form-put-number-requires-2 t c κs = (omega (arith, low-2 t (c .before .before .before)), omega (arith, a-step t (c .before .before .before) .room, bound t (c .before .before .before .before .before .before)))
-
 put-form-put-form-requires : (t : ℕ) → put-form-lts.Need-put-form-requires (put-form-K t) (put-form-at t) put-form.Post put-form-Inv-loop put-form-μ-loop
 put-form-put-form-requires t c κs =
-    let w = a-step t (c .before .before .before) in
-    (omega (arith, w .fewer, c .before .before .before .before .before .before .before .before .before .before .before .before .before .before .before .before .pre .0), (w .ordered, omega (arith, w .room, bound t (c .before .before .before .before .before .before))))
+    let w = a-step t (c .before) in
+    (omega (arith, w .fewer, c .before .before .before .before .before .before .before .before .before .before .before .before .before .before .pre .0), (w .ordered, omega (arith, w .room, bound t (c .before .before .before .before))))
 
 put-form-without32-requires : (t : ℕ) → put-form-lts.Need-without32-requires (put-form-K t) (put-form-at t) put-form.Post put-form-Inv-loop put-form-μ-loop
 put-form-without32-requires t c κs = search needs
 
 put-form-put-if-requires-2 : (t : ℕ) → put-form-lts.Need-put-if-requires-2 (put-form-K t) (put-form-at t) put-form.Post put-form-Inv-loop put-form-μ-loop
-put-form-put-if-requires-2 t c κs = omega (arith, a-step t (c .before .before .before .before) .room, bound t (c .before .before .before .before .before .before .before), wrote t (c .before .before) .place)
+put-form-put-if-requires-2 t c κs = omega (arith, a-step t (c .before .before .before .before .before .before) .room, bound t (c .before .before .before .before .before .before .before .before .before), c .before .before .before .before .put-form .ensures .place)
 
 put-form-loop-less : (t : ℕ) → put-form-lts.Need-loop-less (put-form-K t) (put-form-at t) put-form.Post put-form-Inv-loop put-form-μ-loop
-put-form-loop-less t c = subst (λ (z : ℕ). count z < count (c .before .before .before .before .before .before .before .before .before .loop .rest)) (sym (c .before .before .before .before .without32 .ensures)) (a-step t (c .before .before .before .before .before .before .before) .less)
+put-form-loop-less t c = subst (λ (z : ℕ). count z < count (c .before .before .before .before .before .before .before .before .before .before .before .loop .rest)) (sym (c .before .before .before .before .without32 .ensures)) (a-step t (c .before .before .before .before .before .before .before .before .before) .less)
 
 put-form-loop-again : (t : ℕ) → put-form-lts.Need-loop-again (put-form-K t) (put-form-at t) put-form.Post put-form-Inv-loop put-form-μ-loop
 put-form-loop-again t c =
-    let w = a-step t (c .before .before .before .before .before .before .before) in
-    let m = c .before .before .before .before .before .before .before .before .before .before .before .before .before .before .mark .ensures in
-    w .on (wrote t (c .before .before .before .before .before)) _ (c .before .before .before .before .without32 .ensures) (recast (ap (only (not (eqb (c .before .before .before .before .without32 .result) 0))) m) (c .before .before .put-if2 .ensures))
+    let w = a-step t (c .before .before .before .before .before .before .before .before .before) in
+    let m = c .before .before .before .before .before .before .before .before .before .before .before .before .before .before .before .before .mark .ensures in
+    w .on (c .before .before .before .before .before .before .before .put-form .ensures) _ (c .before .before .before .before .without32 .ensures) (recast (ap (only (not (eqb (c .before .before .before .before .without32 .result) 0))) m) (c .before .before .put-if2 .ensures))
 
 put-form-put-if-requires-3 : (t : ℕ) → put-form-lts.Need-put-if-requires-3 (put-form-K t) (put-form-at t) put-form.Post put-form-Inv-loop put-form-μ-loop
 put-form-put-if-requires-3 t c κs = omega (arith, c .before .before .loop .inv .wrote .place, bound t (c .before .before .before))
@@ -237,10 +213,6 @@ pub +put-form-spec : {M : Type 1} → statement M
     (put-form-put-if-requires t)
     (put-form-loop-holds t)
     (put-form-member-requires t)
-    (put-form-single32-requires-2 t)
-    (put-form-add-put-number-2 t)
-    (put-form-cast-put-number-2 t)
-    (put-form-put-number-requires-2 t)
     (put-form-put-form-requires t)
     (put-form-without32-requires t)
     (put-form-put-if-requires-2 t)

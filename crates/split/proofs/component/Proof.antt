@@ -2,7 +2,7 @@ use borrow.Author.Needs.{needs}
 use native.Mathlib.Omega.{arith}
 use Prim.Native.Nat.{_^_, _<_}
 use Rattle.sets.specs.Sets.{union, count}
-use Rattle.split.proofs.Grow.{Growing, grow-begin, pick-under, grow-step, grow-done}
+use Rattle.split.proofs.Grow.{Growing, grow-alone, grow-begin, pick-under, grow-step, grow-done}
 use Rattle.split.proofs.component.Statement.{statement}
 use Rattle.split.proofs.component.Tie as tie
 use Rattle.split.proofs.component.Reads as reads
@@ -21,12 +21,12 @@ abbrev μ-loop : tie.MeasureT-loop
 μ-loop after prior k set x start rest first left₀ todo₀ left todo = count (union left todo)
 
 facts : (c : tie.After-pending2 Inv-loop μ-loop) →
-    let a = c .before .before .before .before .before .before .before .before .before .before .before .before .before .before .args in
+    let a = c .before .before .before .before .before .before .before .before .before .before .before .before .before .before .before .args in
     let l = c .before .before .before .before .before .before .before .before .loop in
     Growing (a .after .now) (a .k) (a .set) (a .x) (c .before .before .before .before .without323 .result) (c .pending2 .result)
     × (count (union (c .before .before .before .before .without323 .result) (c .pending2 .result)) < count (union (l .left) (l .todo)))
 facts c =
-    let s = c .before .before .before .before .before .before .before .before .before .before .before .before .before .before in
+    let s = c .before .before .before .before .before .before .before .before .before .before .before .before .before .before .before in
     let l : s .args .set < 2 ^ 32 = search needs in
     grow-step _ _ _ _ (s .pre .2) _ (c .before .before .before .before .before .before .before .before .loop .inv) l (c .before .before .before .before .before .before .before .loop-test .taken) (c .before .before .before .before .before .before .first32 .ensures) (c .before .before .before .before .before .hanging2 .ensures) (c .before .before .before .before .without323 .ensures)
     (c .before .before .before .single322 .ensures) (c .before .before .without324 .ensures) (c .before .union32 .ensures) (c .pending2 .ensures)
@@ -40,6 +40,11 @@ without32-requires c κs = search needs
 hanging-requires : tie.Need-hanging-requires Inv-loop μ-loop
 hanging-requires c κs = search needs
 
+returns : tie.Need-returns Inv-loop μ-loop
+returns c =
+    let s = c .before .before .before .before in
+    grow-alone _ _ _ _ (s .pre .2) _ (s .pre .1) (c .before .before .before .single32 .ensures) (c .before .before .without32 .ensures) (c .before .hanging .ensures) (c .if1 .taken)
+
 without32-requires-2 : tie.Need-without32-requires-2 Inv-loop μ-loop
 without32-requires-2 c κs = search needs
 
@@ -48,15 +53,15 @@ pending-requires c κs = search needs
 
 loop-holds : tie.Need-loop-holds Inv-loop μ-loop
 loop-holds c =
-    let s = c .before .before .before .before .before in
-    grow-begin _ _ _ _ (s .pre .2) _ (s .pre .1) (c .before .before .before .before .single32 .ensures) (c .before .before .before .without32 .ensures) (c .before .before .hanging .ensures) (c .before .without322 .ensures) (c .pending .ensures)
+    let s = c .before .before .before .before .before .before in
+    grow-begin _ _ _ _ (s .pre .2) _ (s .pre .1) (c .before .before .before .before .before .single32 .ensures) (c .before .before .before .before .without32 .ensures) (c .before .before .before .hanging .ensures) (c .before .without322 .ensures) (c .pending .ensures)
 
 first32-requires : tie.Need-first32-requires Inv-loop μ-loop
 first32-requires c κs = search needs
 
 hanging-requires-2 : tie.Need-hanging-requires-2 Inv-loop μ-loop
 hanging-requires-2 c κs =
-    let s = c .before .before .before .before .before .before .before .before in
+    let s = c .before .before .before .before .before .before .before .before .before in
     let l : s .args .set < 2 ^ 32 = search needs in
     omega (arith, c .first32 .ensures, pick-under _ _ _ _ (s .pre .2) _ (c .before .before .loop .inv) l (c .before .loop-test .taken))
 
@@ -65,7 +70,7 @@ without32-requires-3 c κs = search needs
 
 single32-requires-2 : tie.Need-single32-requires-2 Inv-loop μ-loop
 single32-requires-2 c κs =
-    let s = c .before .before .before .before .before .before .before .before .before .before in
+    let s = c .before .before .before .before .before .before .before .before .before .before .before in
     let l : s .args .set < 2 ^ 32 = search needs in
     omega (arith, c .before .before .first32 .ensures, pick-under _ _ _ _ (s .pre .2) _ (c .before .before .before .before .loop .inv) l (c .before .before .before .loop-test .taken))
 
@@ -87,9 +92,9 @@ loop-again c = facts c .0
 without32-requires-5 : tie.Need-without32-requires-5 Inv-loop μ-loop
 without32-requires-5 c κs = search needs
 
-returns : tie.Need-returns Inv-loop μ-loop
-returns c =
-    let s = c .before .before .before .before .before .before .before .before in
+returns-2 : tie.Need-returns-2 Inv-loop μ-loop
+returns-2 c =
+    let s = c .before .before .before .before .before .before .before .before .before in
     grow-done _ _ _ _ (s .pre .2) _ (s .pre .1) (c .before .before .loop .inv) (c .before .loop-test .left) (c .without325 .ensures)
 
 pub component-spec : {M : Type 1} → statement M
@@ -101,6 +106,7 @@ component-spec =
     single32-requires
     without32-requires
     hanging-requires
+    returns
     without32-requires-2
     pending-requires
     loop-holds
@@ -114,4 +120,4 @@ component-spec =
     loop-less
     loop-again
     without32-requires-5
-    returns)
+    returns-2)
