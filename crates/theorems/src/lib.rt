@@ -1,0 +1,1 @@
+// Laws alone: the theorems on the whole product, over the operations' definitions.
