@@ -91,6 +91,11 @@ unfolding transposed
 transposed-length n rows = rows-length n (λ j i. ahead rows i j)
 
 -- on the goals they say the same the other way round
+pub transposed-turned : (n : ℕ) (R : ℕ → ℕ → Bool) (rows : List ℕ) → n ≤ 32 → rows ≡ rowsOf n (λ j i. R i j) → transposed n rows ≡ rowsOf n R
+unfolding transposed
+transposed-turned n R rows h e =
+    rows-cong n (λ j i. ahead rows i j) R h (λ j i a b c d. ap (λ (l : List ℕ). ahead l i j) e ∙ rows-say n (λ j i. R i j) i j h c d a b)
+
 pub transposed-says : (n : ℕ) (rows : List ℕ) (i j : ℕ) → n ≤ 32 → 1 ≤ i → i ≤ n → 1 ≤ j → j ≤ n → ahead (transposed n rows) j i ≡ ahead rows i j
 unfolding transposed
 transposed-says n rows i j h a b c d = rows-say n (λ k l. ahead rows l k) j i h c d a b

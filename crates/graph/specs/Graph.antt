@@ -18,6 +18,10 @@ abbrev pub ahead : List ℕ → ℕ → ℕ → Bool
 ahead rows zero j = false
 ahead rows (suc i) j = hasGoal (getD rows i 0) j
 
+-- the same by rows that are turned round: row j - 1 has the goals that are before goal j
+abbrev pub behind : List ℕ → ℕ → ℕ → Bool
+behind rows i j = ahead rows j i
+
 -- the set of those of the goals 1 to n of which f holds
 unfoldable pub goalsOf : ℕ → (ℕ → Bool) → ℕ
 goalsOf n f = setOf n (λ i. f (suc i))

@@ -12,7 +12,7 @@ use borrow.Author.Tests.{eq-eqb, ne-eqb, eqb-true, eqb-false, leb-false}
 use Rattle.logic.proofs.Bools.{test, by-test}
 use Rattle.sets.specs.Sets.{has, single}
 use Rattle.sets.proofs.Laws.{has-empty, has-single}
-use Rattle.graph.specs.Graph.{ahead}
+use Rattle.graph.specs.Graph.{behind}
 use Rattle.expression.specs.Expr.{goal, times, stands}
 use Rattle.grammar.specs.Reader.{Sign, digit, joiner, opener, closer, other, sign, Front, Level, due, begun, done, state, goes, starts, grows}
 use Rattle.grammar.proofs.Signs.{Is, sign-is, sign-digit}
@@ -30,7 +30,7 @@ told-goal v rows lo w =
       kinds = refl;
       stand = λ i h. by-test (λ m. has m i ≡ stands (goal v) (suc i)) (leb v 32) (λ t. small i) (λ t. large i h (leb-false v 32 t));
       once = λ z u. once (test (leb v 32)) z u;
-      order = λ i j h k. sym (or-false (ahead rows (suc i) (suc j)));
+      order = λ i j h k. sym (or-false (behind rows (suc i) (suc j)));
       words = w;
     }
   where

@@ -6,7 +6,7 @@ use Prim.Native.Nat.{ℕ, zero, suc, _+_, _-_, _<_, _≤_}
 use lib.Dec.{leb}
 use lib.ListN.{length, getD, drop}
 use Rattle.sets.specs.Sets.{has, single}
-use Rattle.graph.specs.Graph.{ahead}
+use Rattle.graph.specs.Graph.{behind}
 use Rattle.expression.specs.Expr.{Expr, goal, join, times, stands, before}
 use Rattle.grammar.specs.Reader.{Front, Level, Phase, due, done, State, state, refused, run}
 use Rattle.rows.specs.Rows.{Words}
@@ -40,12 +40,12 @@ bit set zero = 0
 bit set (suc i) = cond (has set i) 1 0
 
 -- The node and the rows tell of x: its kind, the numbers up to 32 that stand in it, that they stand in it once and no other does if `extra` is 0,
--- and its order beside the rows from before.
+-- and its order beside the rows from before; the rows are turned round.
 pub record Told (x : Expr) (rows : List ℕ) (kind : Kind) (set extra : ℕ) (now : List ℕ) : Type 0 where
   pub kinds : kind ≡ kindOf x
   pub stand : (i : ℕ) → i < 32 → has set i ≡ stands x (suc i)
   pub once : extra ≡ 0 → (v : ℕ) → times x v ≤ bit set v
-  pub order : (i j : ℕ) → i < 32 → j < 32 → ahead now (suc i) (suc j) ≡ (ahead rows (suc i) (suc j) || before x (suc i) (suc j))
+  pub order : (i j : ℕ) → i < 32 → j < 32 → behind now (suc i) (suc j) ≡ (behind rows (suc i) (suc j) || before x (suc i) (suc j))
   pub words : Words now
 
 -- from the place a in the state x the reader comes to the place e in the state y; it refuses at p

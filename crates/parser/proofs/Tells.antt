@@ -10,7 +10,7 @@ use borrow.Author.Tests.{le-leb}
 use Rattle.logic.proofs.Bools.{or-false as neither}
 use Rattle.sets.specs.Sets.{has, union, meet}
 use Rattle.sets.proofs.Laws.{has-union, has-meet, has-empty, none-empty}
-use Rattle.graph.specs.Graph.{ahead}
+use Rattle.graph.specs.Graph.{behind}
 use Rattle.expression.specs.Expr.{Expr, join, Members, one, more, times, timesM, stands, standsM, before, beforeM}
 use Rattle.grammar.specs.Reader.{Front, close, push}
 use Rattle.rows.specs.Rows.{Words, Linked}
@@ -46,6 +46,12 @@ bool-first false false false false x y m = refl
 nothing : (k a : Bool) → (a || (k && false)) ≡ a
 nothing true a = or-false a
 nothing false a = or-false a
+
+and-swap : (p q : Bool) → (p && q) ≡ (q && p)
+and-swap true true = refl
+and-swap true false = refl
+and-swap false true = refl
+and-swap false false = refl
 
 -- ---- sets
 stands-or : (a b : ℕ) → leb 1 (a + b) ≡ (leb 1 a || leb 1 b)
@@ -86,7 +92,7 @@ pub record Tells (k : Bool) (x : Expr) (ms : Members) (rows₀ : List ℕ) (set 
   pub stand : (i : ℕ) → i < 32 → stands x (suc i) ≡ (has set i || standsM ms (suc i))
   pub once : extra ≡ 0 → (v : ℕ) → times x v ≤ bit set v + timesM ms v
   pub order : (i j : ℕ) → i < 32 → j < 32
-      → (ahead rows₀ (suc i) (suc j) || before x (suc i) (suc j)) ≡ (ahead rows (suc i) (suc j) || (beforeM k ms (suc i) (suc j) || (k && (has set i && standsM ms (suc j)))))
+      → (behind rows₀ (suc i) (suc j) || before x (suc i) (suc j)) ≡ (behind rows (suc i) (suc j) || (beforeM k ms (suc i) (suc j) || (k && (has set i && standsM ms (suc j)))))
 
 abbrev pub FrontTold : Bool → Front → List ℕ → ℕ → ℕ → List ℕ → Type 0
 FrontTold k none rows₀ set extra rows = (set ≡ 0) × (rows ≡ rows₀)
@@ -105,20 +111,21 @@ clash-none extra new set part z =
 -- in a sequence the members before are before the new one
 pub record Links (k : Bool) (set part : ℕ) (rows now : List ℕ) : Type 0 where
   pub words : Words now
-  pub order : (i j : ℕ) → i < 32 → j < 32 → ahead now (suc i) (suc j) ≡ (ahead rows (suc i) (suc j) || (k && (has set i && has part j)))
+  pub order : (i j : ℕ) → i < 32 → j < 32 → behind now (suc i) (suc j) ≡ (behind rows (suc i) (suc j) || (k && (has set i && has part j)))
 
-pub links-sequence : (set part : ℕ) (rows now : List ℕ) → Linked set part rows now → Links true set part rows now
-links-sequence set part rows now h = record { words = h .words; order = λ i j l l′. h .order i j l }
+pub links-sequence : (set part : ℕ) (rows now : List ℕ) → Linked part set rows now → Links true set part rows now
+links-sequence set part rows now h =
+    record { words = h .words; order = λ i j l l′. h .order j i l′ ∙ ap (λ b. behind rows (suc i) (suc j) || b) (and-swap (has part j) (has set i)) }
 
 pub links-group : (set part : ℕ) (rows : List ℕ) → Words rows → Links false set part rows rows
-links-group set part rows w = record { words = w; order = λ i j l l′. sym (or-false (ahead rows (suc i) (suc j))) }
+links-group set part rows w = record { words = w; order = λ i j l l′. sym (or-false (behind rows (suc i) (suc j))) }
 
 module _ (k : Bool) (rows₀ : List ℕ) (set extra : ℕ) (rows : List ℕ) (x : Expr) (kind : Kind) (part new : ℕ) (mid now : List ℕ) where
   set-is : Told x rows kind part new mid → (i : ℕ) → i < 32 → has (union set part) i ≡ (has set i || stands x (suc i))
   set-is t i h = has-union set part i ∙ ap (λ z. has set i || z) (t .stand i h)
 
   now-is : Told x rows kind part new mid → Links k set part mid now → (i j : ℕ) → i < 32 → j < 32
-      → ahead now (suc i) (suc j) ≡ (ahead rows (suc i) (suc j) || before x (suc i) (suc j) || (k && (has set i && stands x (suc j))))
+      → behind now (suc i) (suc j) ≡ (behind rows (suc i) (suc j) || before x (suc i) (suc j) || (k && (has set i && stands x (suc j))))
   now-is t l i j h h′ = l .order i j h h′ ∙ ap₂ (λ a b. a || (k && (has set i && b))) (t .order i j h h′) (t .stand j h′)
 
   -- a first member alone: nothing is put before it
@@ -130,8 +137,8 @@ module _ (k : Bool) (rows₀ : List ℕ) (set extra : ℕ) (rows : List ℕ) (x 
         stand = t .stand;
         once = t .once;
         order = λ i j lt lt′.
-            l .order i j lt lt′ ∙ ap (λ b. ahead mid (suc i) (suc j) || (k && (b && has part j))) (blank i) ∙ nothing k (ahead mid (suc i) (suc j))
-            ∙ t .order i j lt lt′ ∙ ap (λ z. ahead z (suc i) (suc j) || before x (suc i) (suc j)) (h .1);
+            l .order i j lt lt′ ∙ ap (λ b. behind mid (suc i) (suc j) || (k && (b && has part j))) (blank i) ∙ nothing k (behind mid (suc i) (suc j))
+            ∙ t .order i j lt lt′ ∙ ap (λ z. behind z (suc i) (suc j) || before x (suc i) (suc j)) (h .1);
         words = l .words;
       }
 
@@ -147,9 +154,9 @@ module _ (k : Bool) (rows₀ : List ℕ) (set extra : ℕ) (rows : List ℕ) (x 
             let p = clash-none extra new set part z in
             omega (arith, t .once (p .1) v, bit-union set part (p .2) v);
         order = λ i j lt lt′.
-            bool-first (ahead rows₀ (suc i) (suc j)) (before x (suc i) (suc j)) (beforeM k ms (suc i) (suc j)) k (stands x (suc i)) (stands x (suc j)) (standsM ms (suc j))
+            bool-first (behind rows₀ (suc i) (suc j)) (before x (suc i) (suc j)) (beforeM k ms (suc i) (suc j)) k (stands x (suc i)) (stands x (suc j)) (standsM ms (suc j))
             ∙ ap₂ (λ a b. a || (beforeM k ms (suc i) (suc j) || (k && (b && standsM ms (suc j)))))
-            (ap₂ (λ a b. ahead a (suc i) (suc j) || before x (suc i) (suc j) || (k && (b && stands x (suc j)))) (sym (h .1)) (sym (empty i)) ∙ sym (now-is t l i j lt lt′))
+            (ap₂ (λ a b. behind a (suc i) (suc j) || before x (suc i) (suc j) || (k && (b && stands x (suc j)))) (sym (h .1)) (sym (empty i)) ∙ sym (now-is t l i j lt lt′))
             (sym (set-now i lt));
       }
   told-push (some f) h t l = λ ms.
@@ -163,8 +170,8 @@ module _ (k : Bool) (rows₀ : List ℕ) (set extra : ℕ) (rows : List ℕ) (x 
             omega (arith, r .once (p .0) v, t .once (p .1) v, bit-union set part (p .2) v);
         order = λ i j lt lt′.
             r .order i j lt lt′
-            ∙ ap (λ z. ahead rows (suc i) (suc j) || (beforeM k (more x ms) (suc i) (suc j) || (k && (has set i && z)))) (stands-or (times x (suc j)) (timesM ms (suc j)))
-            ∙ bool-push (ahead rows (suc i) (suc j)) (before x (suc i) (suc j)) (beforeM k ms (suc i) (suc j)) k (has set i) (stands x (suc i)) (stands x (suc j)) (standsM ms (suc j))
+            ∙ ap (λ z. behind rows (suc i) (suc j) || (beforeM k (more x ms) (suc i) (suc j) || (k && (has set i && z)))) (stands-or (times x (suc j)) (timesM ms (suc j)))
+            ∙ bool-push (behind rows (suc i) (suc j)) (before x (suc i) (suc j)) (beforeM k ms (suc i) (suc j)) k (has set i) (stands x (suc i)) (stands x (suc j)) (standsM ms (suc j))
             ∙ ap₂ (λ a b. a || (beforeM k ms (suc i) (suc j) || (k && (b && standsM ms (suc j))))) (sym (now-is t l i j lt lt′)) (sym (set-is t i lt));
       }
 
@@ -179,5 +186,5 @@ module _ (k : Bool) (rows₀ : List ℕ) (set extra : ℕ) (rows : List ℕ) (x 
             let p = clash-none extra new set part z in
             omega (arith, r .once (p .0) v, t .once (p .1) v, bit-union set part (p .2) v);
         words = l .words;
-        order = λ i j lt lt′. now-is t l i j lt lt′ ∙ or-assoc (ahead rows (suc i) (suc j)) (before x (suc i) (suc j)) (k && (has set i && stands x (suc j))) ∙ sym (r .order i j lt lt′);
+        order = λ i j lt lt′. now-is t l i j lt lt′ ∙ or-assoc (behind rows (suc i) (suc j)) (before x (suc i) (suc j)) (k && (has set i && stands x (suc j))) ∙ sym (r .order i j lt lt′);
       }

@@ -1,5 +1,6 @@
 // Readers of an expression's text: sequence, group and primary call each other in a cycle, bounded by the bytes left and the open parentheses.
-// Members are read by loops; the rows of the order are lent down the cycle, and each reader answers with one node.
+// Members are read by loops; the rows of the order, turned round, are lent down the cycle, so that a member is put behind all before it by its own rows alone.
+// Each reader answers with one node.
 use numbers::Kind;
 use numbers::Node;
 use numbers::Part;
@@ -26,7 +27,7 @@ fn sequence(text: &[u8], start: usize, depth: usize, rows: &mut [u32; 32]) -> Pa
             Part::Read(node) => {
                 let later = node.set;
                 let end = node.end;
-                rows::link(rows, set, later);
+                rows::link(rows, later, set);
                 extra = extra | node.extra | (set & later);
                 set = set | later;
                 if numbers::peek(text, end) == 44 {

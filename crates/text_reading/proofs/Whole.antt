@@ -14,8 +14,8 @@ use Rattle.logic.proofs.Bools.{test, is-false, or-false}
 use Rattle.sets.specs.Sets.{has, subset, below}
 use Rattle.sets.proofs.Laws.{has-empty, has-below, member-below, none-empty, subset-has, has-subset}
 use Rattle.sets.proofs.Builder.{members-lt}
-use Rattle.graph.specs.Graph.{hasGoal, ahead, goalsOf, rowsOf}
-use Rattle.graph.proofs.Rows.{goals-ext, rows-ext}
+use Rattle.graph.specs.Graph.{hasGoal, behind, goalsOf, rowsOf, Within, transposed}
+use Rattle.graph.proofs.Rows.{goals-ext, rows-ext, rows-within, transposed-turned}
 use Rattle.expression.specs.Search.{orElse}
 use Rattle.expression.specs.Expr.{Expr, times, stands, before, UsesOnce}
 use Rattle.expression.proofs.Spec.{stands-in, before-in}
@@ -105,7 +105,7 @@ module _ (n : ℕ) (few : n ≤ 32) (s : List ℕ) (set extra : ℕ) (h : Counte
 
 -- ---- the graph and the set of an expression that uses each goal once
 module _ (n : ℕ) (x : Expr) (set : ℕ) (now : List ℕ) (few : n ≤ 32) (uses : UsesOnce n x) (small : set < 2 ^ 32)
-    (stand : (i : ℕ) → i < 32 → has set i ≡ stands x (suc i)) (order : (i j : ℕ) → i < 32 → j < 32 → ahead now (suc i) (suc j) ≡ before x (suc i) (suc j)) (words : Words now) where
+    (stand : (i : ℕ) → i < 32 → has set i ≡ stands x (suc i)) (order : (i j : ℕ) → i < 32 → j < 32 → behind now (suc i) (suc j) ≡ before x (suc i) (suc j)) (words : Words now) where
   goal-in : (i : ℕ) → stands x (suc i) ≡ true → i < n
   goal-in i h = omega (arith, uses-in n x uses (suc i) (stands-in x (suc i) h) .1)
 
@@ -117,20 +117,26 @@ module _ (n : ℕ) (x : Expr) (set : ℕ) (now : List ℕ) (few : n ≤ 32) (use
       at (suc i) a b = stand i (omega arith)
 
   -- a bit of a row is an order of two goals
-  edge : (i j : ℕ) → i < 32 → has (getD now i 0) j ≡ true → (i < n) × (j < n)
-  edge i j l h =
-      let b = before-in x (suc i) (suc j) (sym (order i j l (member-below 32 (getD now i 0) j (words .small i) h)) ∙ h) in
-      (omega (arith, uses-in n x uses (suc i) (b .0) .1), omega (arith, uses-in n x uses (suc j) (b .1) .1))
+  edge : (j i : ℕ) → j < 32 → has (getD now j 0) i ≡ true → (j < n) × (i < n)
+  edge j i l h =
+      let b = before-in x (suc i) (suc j) (sym (order i j (member-below 32 (getD now j 0) i (words .small j) h) l) ∙ h) in
+      (omega (arith, uses-in n x uses (suc j) (b .1) .1), omega (arith, uses-in n x uses (suc i) (b .0) .1))
 
-  rows-are : now ≡ rowsOf n (before x)
-  rows-are =
-      rows-ext n (before x) now few (words .size) (λ i l. members-lt n (getD now i 0) (λ j e. edge i j (omega arith) e .1)) (λ i j. at i j)
-      (λ i l p. none-empty (getD now i 0) (λ j. is-false (has (getD now i 0) j) (λ e. absurd (omega (arith, p, edge i j l e .0)))))
+  turned-are : now ≡ rowsOf n (λ j i. before x i j)
+  turned-are =
+      rows-ext n (λ j i. before x i j) now few (words .size) (λ j l. members-lt n (getD now j 0) (λ i e. edge j i (omega arith) e .1)) (λ j i. at j i)
+      (λ j l p. none-empty (getD now j 0) (λ i. is-false (has (getD now j 0) i) (λ e. absurd (omega (arith, p, edge j i l e .0)))))
     where
-      at : (i j : ℕ) → 1 ≤ i → i ≤ n → 1 ≤ j → j ≤ n → ahead now i j ≡ before x i j
-      at zero j a b c d = absurd (omega arith)
-      at (suc i) zero a b c d = absurd (omega arith)
-      at (suc i) (suc j) a b c d = order i j (omega arith) (omega arith)
+      at : (j i : ℕ) → 1 ≤ j → j ≤ n → 1 ≤ i → i ≤ n → behind now i j ≡ before x i j
+      at zero i a b c d = absurd (omega arith)
+      at (suc j) zero a b c d = absurd (omega arith)
+      at (suc j) (suc i) a b c d = order i j (omega arith) (omega arith)
+
+  turned-within : Within n now
+  turned-within = subst (Within n) (sym turned-are) (rows-within n (λ j i. before x i j) few)
+
+  rows-are : transposed n now ≡ rowsOf n (before x)
+  rows-are = transposed-turned n (before x) now few turned-are
 
 module _ (n : ℕ) (s : List ℕ) where
   pub text-short : length s < 1 → refusal 15 0 ≡ readText n s
@@ -173,18 +179,26 @@ module _ (n : ℕ) (s : List ℕ) where
           text-lacks l =
               sym (reads ∙ ap (λ o. numbered (parsed .0) o) (misused true (some-lack n (parsed .0) (nd .set) few (parsed .3 .stand) l)))
 
-          pub text-done : subset (below n) (nd .set) ≡ true → nd .set < 2 ^ 32
-              → _≡_ {A = TextAnswer} (record { outcome = Read; graph = record { n = n; rows = now }; met = nd .set }) (textAnswer n (readText n s))
-          text-done l small =
-              let m = misused false (all-there n (parsed .0) (nd .set) few (parsed .3 .stand) l) in
-              let u = misuse-none 32 n s (parsed .0) (read-accepts 32 s (parsed .0) .0 (parsed .1)) .0 m in
-              let w = parsed .3 .words in
-              ap₂ (λ a b. record { outcome = Read; graph = record { n = n; rows = a }; met = b })
-              (rows-are n (parsed .0) (nd .set) now few u small (parsed .3 .stand) order w) (met-is n (parsed .0) (nd .set) now few u small (parsed .3 .stand) order w)
-              ∙ sym (ap (λ z. textAnswer n z) (reads ∙ ap (λ o. numbered (parsed .0) o) m))
-            where
-              blank : (i j : ℕ) → i < 32 → ahead (replicate 32 0) (suc i) (suc j) ≡ false
-              blank i j l = ap (λ z. has z j) (getD-replicate 32 i 0 0 l) ∙ has-empty j
+          module _ (l : subset (below n) (nd .set) ≡ true) (small : nd .set < 2 ^ 32) where
+            right : misuse n s (parsed .0) ≡ none
+            right = misused false (all-there n (parsed .0) (nd .set) few (parsed .3 .stand) l)
 
-              order : (i j : ℕ) → i < 32 → j < 32 → ahead now (suc i) (suc j) ≡ before (parsed .0) (suc i) (suc j)
-              order i j a b = parsed .3 .order i j a b ∙ ap (λ z. z || before (parsed .0) (suc i) (suc j)) (blank i j a)
+            uses-once : UsesOnce n (parsed .0)
+            uses-once = misuse-none 32 n s (parsed .0) (read-accepts 32 s (parsed .0) .0 (parsed .1)) .0 right
+
+            order : (i j : ℕ) → i < 32 → j < 32 → behind now (suc i) (suc j) ≡ before (parsed .0) (suc i) (suc j)
+            order i j a b =
+                parsed .3 .order i j a b ∙ ap (λ z. z || before (parsed .0) (suc i) (suc j)) (ap (λ z. has z i) (getD-replicate 32 j 0 0 b) ∙ has-empty i)
+
+            -- the rows are turned round
+            pub text-within : Within n now
+            text-within = turned-within n (parsed .0) (nd .set) now few uses-once small (parsed .3 .stand) order (parsed .3 .words)
+
+            pub text-done : (rows : List ℕ) → rows ≡ transposed n now
+                → _≡_ {A = TextAnswer} (record { outcome = Read; graph = record { n = n; rows = rows }; met = nd .set }) (textAnswer n (readText n s))
+            text-done rows e =
+                let w = parsed .3 .words in
+                ap₂ (λ a b. record { outcome = Read; graph = record { n = n; rows = a }; met = b })
+                (e ∙ rows-are n (parsed .0) (nd .set) now few uses-once small (parsed .3 .stand) order w)
+                (met-is n (parsed .0) (nd .set) now few uses-once small (parsed .3 .stand) order w)
+                ∙ sym (ap (λ z. textAnswer n z) (reads ∙ ap (λ o. numbered (parsed .0) o) right))

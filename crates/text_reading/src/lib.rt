@@ -112,8 +112,8 @@ pub fn read_text(text: &[u8], n: usize) -> TextAnswer
     if LONGEST < len {
         return refused(15, 0);
     }
-    let mut rows = [0u32; Graph::MAX];
-    let part = parser::parse(text, &mut rows);
+    let mut prior = [0u32; Graph::MAX];
+    let part = parser::parse(text, &mut prior);
     match part {
         Part::Bad(p) => refused(16, p),
         Part::Read(node) => {
@@ -124,6 +124,7 @@ pub fn read_text(text: &[u8], n: usize) -> TextAnswer
                 Spot::Nowhere => {
                     if sets::subset32(sets::below32(n), met) {
                         let outcome = Outcome::Read;
+                        let rows = graph::transposed(&prior, n);
                         let graph = Graph { n, rows };
                         TextAnswer {
                             outcome,

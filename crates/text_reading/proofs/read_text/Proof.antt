@@ -3,7 +3,7 @@ use native.Mathlib.Omega.{arith}
 use Rattle.sets.specs.Sets.{subset}
 use Rattle.rows.proofs.Linking.{words-zero}
 use Rattle.text_reading.specs.Answers.{textAnswer}
-use Rattle.text_reading.proofs.Whole.{text-short, text-long, text-bad, counted, text-fault, text-lacks, text-done}
+use Rattle.text_reading.proofs.Whole.{text-short, text-long, text-bad, counted, text-fault, text-lacks, text-within, text-done}
 use borrow.Author.Needs.{needs}
 use Rattle.text_reading.proofs.read_text.Statement.{statement}
 use Rattle.text_reading.proofs.read_text.Tie as tie
@@ -71,6 +71,10 @@ below32-requires c κs = search needs
 subset32-requires : tie.Need-subset32-requires
 subset32-requires c κs = search needs
 
+-- src/lib.rt:113:36
+transposed-requires : tie.Need-transposed-requires
+transposed-requires c κs = (search needs, text-within (c .before .before .before .before .before .before .before .before .before .before .before .before .before .before .before .args .n) (c .before .before .before .before .before .before .before .before .before .before .before .before .before .before .before .args .text .now) (omega (arith, c .before .before .before .before .before .before .before .before .before .before .before .before .before .if1 .left)) (c .before .before .before .before .before .before .before .before .before .before .before .before .if2 .left) _ _ (c .before .before .before .before .before .before .before .before .before .before .parse .ensures) _ (c .before .before .before .before .before .before .before .before .part2 .given .1) (c .before .before .before .before .before .before .before .before .before .before .before .before .before .before .before .pre) _ (c .before .before .before .before .before .before .fault-of .ensures) (c .before .before .before .before .enum-told .given .1) (ap (λ z. subset z (c .before .before .before .before .before .before .before .before .part2 .given .0 .0 .set)) (sym (c .before .before .before .below32 .ensures)) ∙ sym (c .before .before .subset32 .ensures) ∙ c .before .if3 .taken) (search needs))
+
 -- src/lib.rt:117:25
 refused-requires-5 : tie.Need-refused-requires-5
 refused-requires-5 c κs = search needs
@@ -85,7 +89,7 @@ returns-4 c = c .refused4 .ensures ∙ ap (λ z. textAnswer (c .before .before .
 
 -- src/lib.rt:87:1
 returns-5 : tie.Need-returns-5
-returns-5 c = text-done (c .before .before .before .before .before .before .before .before .before .before .before .before .before .before .args .n) (c .before .before .before .before .before .before .before .before .before .before .before .before .before .before .args .text .now) (omega (arith, c .before .before .before .before .before .before .before .before .before .before .before .before .if1 .left)) (c .before .before .before .before .before .before .before .before .before .before .before .if2 .left) _ _ (c .before .before .before .before .before .before .before .before .before .parse .ensures) _ (c .before .before .before .before .before .before .before .part2 .given .1) (c .before .before .before .before .before .before .before .before .before .before .before .before .before .before .pre) _ (c .before .before .before .before .before .fault-of .ensures) (c .before .before .before .enum-told .given .1) (ap (λ z. subset z (c .before .before .before .before .before .before .before .part2 .given .0 .0 .set)) (sym (c .before .before .below32 .ensures)) ∙ sym (c .before .subset32 .ensures) ∙ c .if3 .taken) (search needs)
+returns-5 c = text-done (c .before .before .before .before .before .before .before .before .before .before .before .before .before .before .before .before .args .n) (c .before .before .before .before .before .before .before .before .before .before .before .before .before .before .before .before .args .text .now) (omega (arith, c .before .before .before .before .before .before .before .before .before .before .before .before .before .before .if1 .left)) (c .before .before .before .before .before .before .before .before .before .before .before .before .before .if2 .left) _ _ (c .before .before .before .before .before .before .before .before .before .before .before .parse .ensures) _ (c .before .before .before .before .before .before .before .before .before .part2 .given .1) (c .before .before .before .before .before .before .before .before .before .before .before .before .before .before .before .before .pre) _ (c .before .before .before .before .before .before .before .fault-of .ensures) (c .before .before .before .before .before .enum-told .given .1) (ap (λ z. subset z (c .before .before .before .before .before .before .before .before .before .part2 .given .0 .0 .set)) (sym (c .before .before .before .before .below32 .ensures)) ∙ sym (c .before .before .before .subset32 .ensures) ∙ c .before .before .if3 .taken) (search needs) _ (c .transposed .ensures)
 
 -- src/lib.rt:87:1
 returns-6 : tie.Need-returns-6
@@ -109,6 +113,7 @@ read-text-spec =
     enum-told
     below32-requires
     subset32-requires
+    transposed-requires
     refused-requires-5
     returns-3
     returns-4
