@@ -2,18 +2,24 @@
 //! buffers, by turns.
 //!
 //! ```text
-//! speed [WORD..]     only the lines that hold every word; all if none is given
+//! speed [WORD..]                  only the lines that hold every word; all if none is given
+//! speed random [SEED [CLAUSES]]   the ratios over random clauses, 300 if no number is given
 //! ```
 
 use compare::build::Parts;
-use compare::generate::padded;
+use compare::generate::{Random, padded, parts};
 use lfj::c;
 use std::hint::black_box;
 use std::time::{Duration, Instant};
 
 /// How long one batch of calls should take, and how many batches each side has.
-const BATCH: Duration = Duration::from_micros(400);
-const BATCHES: usize = 60;
+struct Effort {
+    batch: Duration,
+    batches: usize,
+}
+
+const LONG: Effort = Effort { batch: Duration::from_micros(400), batches: 60 };
+const SHORT: Effort = Effort { batch: Duration::from_micros(60), batches: 24 };
 
 /// What an operation is called with. Both sides write into the same buffer.
 struct Input {
@@ -102,15 +108,15 @@ fn batch(side: fn(&mut Input) -> u64, input: &mut Input, calls: u32) -> f64 {
 }
 
 /// The least of each side's batches, proved then hand-written.
-fn measure(operation: &Operation, input: &mut Input) -> (f64, f64) {
+fn measure(operation: &Operation, input: &mut Input, effort: &Effort) -> (f64, f64) {
     let mut calls = 1;
     while calls < 1 << 20
-        && batch(operation.hand, input, calls) * (calls as f64) < BATCH.as_nanos() as f64
+        && batch(operation.hand, input, calls) * (calls as f64) < effort.batch.as_nanos() as f64
     {
         calls *= 2;
     }
     let (mut proved, mut hand) = (f64::MAX, f64::MAX);
-    for turn in 0..BATCHES {
+    for turn in 0..effort.batches {
         if turn % 2 == 0 {
             proved = proved.min(batch(operation.proved, input, calls));
             hand = hand.min(batch(operation.hand, input, calls));
@@ -180,8 +186,16 @@ fn lines() -> Vec<Line> {
     more(&READ, "the longest record", input(&longest, None, 0));
     more(&AFTER, "the longest record", input(&longest, None, 0));
     more(&TEXT, "the longest record", input(&longest, None, 0));
-    let shared = Parts::over(64, &(0..32).map(|goal| 3 << goal).collect::<Vec<u64>>());
-    more(&FORM, "a chain, no facts listed", input(&shared, None, 160));
+    let chain = |goal: u32| 3 << goal;
+    let shared = Parts::over(64, &(0..32).map(chain).collect::<Vec<u64>>());
+    // The second half of the goals have the ground variable 63 alone, and wait for nobody.
+    let half = |goal| if goal < 16 { chain(goal) } else { 1 << 63 };
+    let mut beside = Parts::over(64, &(0..32).map(half).collect::<Vec<u64>>());
+    beside.ground = 1 << 63;
+    for operation in [&AFTER, &FORM, &LENGTH, &CHECK] {
+        more(operation, "a chain, no facts listed", input(&shared, None, 160));
+        more(operation, "a chain of 16 beside 16 goals", input(&beside, None, 160));
+    }
     more(&FORM, "buffer of 0 bytes", input(&Parts::longest_form(), None, 0));
     let long = Parts::longest_mel();
     more(&MEL, "192,127 bytes", input(&long, None, 192_127));
@@ -197,10 +211,60 @@ fn lines() -> Vec<Line> {
     lines
 }
 
+/// The ratios of each operation over random clauses, as a table. A ratio above 1.5 is measured
+/// again and longer, since a short measurement can be disturbed.
+fn spread(seed: u64, clauses: usize) {
+    println!("The ratio proved / hand-written over {clauses} random clauses, seed {seed}.");
+    println!();
+    println!("| operation | median | nine in ten at most | highest | its goals and pairs |");
+    println!("|---|---:|---:|---:|---|");
+    let mut random = Random::new(seed);
+    let mut drawn = Vec::new();
+    while drawn.len() < clauses {
+        let clause = parts(&mut random);
+        if compare::read(&clause.record()).is_ok() {
+            drawn.push(clause);
+        }
+    }
+    for operation in ALL {
+        let mut ratios = Vec::new();
+        for clause in &drawn {
+            let mut input = input(clause, None, 1 << 16);
+            let (mut proved, mut hand) = measure(operation, &mut input, &SHORT);
+            if proved > 1.5 * hand {
+                let (again, by_hand) = measure(operation, &mut input, &LONG);
+                (proved, hand) = (proved.min(again), hand.min(by_hand));
+            }
+            ratios.push((proved / hand, clause.goals.len(), clause.pairs.len()));
+        }
+        ratios.sort_by(|a, b| a.0.total_cmp(&b.0));
+        let at = |part: usize| ratios[(part * ratios.len() / 10).min(ratios.len() - 1)].0;
+        let (highest, goals, pairs) = ratios[ratios.len() - 1];
+        println!(
+            "| {} | {:.2}x | {:.2}x | {highest:.2}x | {goals}, {pairs}",
+            operation.name,
+            at(5),
+            at(9)
+        );
+    }
+}
+
 fn main() {
     let words: Vec<String> = std::env::args().skip(1).collect();
+    if words.first().is_some_and(|word| word == "random") {
+        let number = |place: usize, usual: u64| match words.get(place).map(|word| word.parse()) {
+            None => usual,
+            Some(Ok(number)) if number > 0 => number,
+            Some(_) => {
+                eprintln!("usage: speed random [SEED [CLAUSES]], two numbers above 0");
+                std::process::exit(2);
+            }
+        };
+        return spread(number(1, 1), number(2, 300) as usize);
+    }
     println!(
-        "Nanoseconds a call: the least of {BATCHES} batches a side, the sides by turns in one"
+        "Nanoseconds a call: the least of {} batches a side, the sides by turns in one",
+        LONG.batches
     );
     println!("process, on the same record and into the same buffer, which is not cleared between");
     println!("calls. Both are release builds. The ratio is proved / hand-written.");
@@ -221,7 +285,7 @@ fn main() {
             println!("{title}: the answers differ, {proved:#x} and {hand:#x}");
             std::process::exit(1);
         }
-        let (proved, hand) = measure(line.operation, &mut line.input);
+        let (proved, hand) = measure(line.operation, &mut line.input, &LONG);
         println!(
             "| {} | {} | {} | {proved:.1} | {hand:.1} | {:.2}x",
             line.operation.name,
