@@ -13,7 +13,7 @@ use Rattle.sets.specs.Sets.{has, union, meet, without, setOf}
 use Rattle.sets.proofs.Laws.{has-union, has-meet, has-without, member-below}
 use Rattle.sets.proofs.Builder.{members-lt, setOf-lt, has-setOf-in}
 use Rattle.graph.specs.Exchange.{Width, half, nearBit, farBit}
-use Rattle.graph.proofs.Shifts.{has-shr, has-shl, shl-under}
+use Rattle.sets.proofs.Shifts.{has-shr, has-shl, shl-under}
 
 by-width : (P : ℕ → Type 0) → P 16 → P 8 → P 4 → P 2 → P 1 → (w : ℕ) → Width w → P w
 by-width P a b c d e w (inl h) = subst P (sym h) a

@@ -9,7 +9,7 @@ use lib.ListN.{getD, set, replicate}
 use lib.Pow.{pow-pos}
 use borrow.Author.Tests.{ltb-true}
 use Rattle.logic.proofs.Bools.{and-l}
-use Rattle.sets.specs.Sets.{has, without, below, subset, first}
+use Rattle.sets.specs.Sets.{has, subset, first}
 use Rattle.arrays.proofs.Table.{table-at}
 use Rattle.graph.specs.Graph.{goalsOf, rowsOf, Within}
 use Rattle.graph.proofs.Rows.{rows-within}
@@ -17,17 +17,17 @@ use Rattle.judge.specs.ByRows.{waitsBy}
 use Rattle.closure.specs.Closing.{Rising, Closed, closing, reached}
 use Rattle.closure.proofs.Chains.{rows-rise, above, above-none, above-turn, above-all, above-closed}
 use Rattle.closure.proofs.Visits.{Visited, visit-none, visit-all, first-inside}
-use Rattle.order.specs.Arrays.{waitsAt, waitRow, waitRows}
-use Rattle.order.proofs.Waits.{row-has, row-behind, row-empty, behind-out, behind-small}
+use Rattle.order.specs.Arrays.{waitsAt, waitRow, active, waitRows}
+use Rattle.order.proofs.Waits.{active-out, active-small, row-has, row-active, row-empty}
 
 -- ---- one row
 module _ (ground free : ℕ) (goals pairs rows : List ℕ) (n i : ℕ) where
   -- what holds where the goals `left` are still to be judged
   abbrev pub Judging : ℕ → ℕ → Type 0
-  Judging all left = Visited rows (waitRow ground free goals pairs n i) (without (below n) (below (i + 1))) all left
+  Judging all left = Visited rows (waitRow ground free goals pairs n i) (active ground goals n (i + 1)) all left
 
-  pub judging-none : n ≤ 32 → Judging 0 (without (below n) (below (i + 1)))
-  judging-none h = visit-none rows (waitRow ground free goals pairs n i) (without (below n) (below (i + 1))) (behind-small n i h) (row-behind ground free goals pairs i n)
+  pub judging-none : n ≤ 32 → Judging 0 (active ground goals n (i + 1))
+  judging-none h = visit-none rows (waitRow ground free goals pairs n i) (active ground goals n (i + 1)) (active-small ground goals n (i + 1) h) (row-active ground free goals pairs i n)
 
   -- where goal i + 1 has ground variables alone
   pub row-ground : subset (getD goals i 0) ground ≡ true → 0 ≡ reached rows (waitRow ground free goals pairs n i)
@@ -37,7 +37,9 @@ module _ (ground free : ℕ) (goals pairs rows : List ℕ) (n i : ℕ) where
 
   module _ (all left : ℕ) (v : Judging all left) (some : left ≡ 0 → ⊥) (k : ℕ) (e : k ≡ first 32 left) where
     pub first-behind : (i < k) × (k < n)
-    first-behind = behind-out n i k (first-inside rows (waitRow ground free goals pairs n i) (without (below n) (below (i + 1))) all left v some k e)
+    first-behind =
+        let o = active-out ground goals n (i + 1) k (first-inside rows (waitRow ground free goals pairs n i) (active ground goals n (i + 1)) all left v some k e) in
+        (omega arith, o .1)
 
     -- goal k + 1 is in the row if it is judged to wait
     pub judged : (t : Bool) → t ≡ waitsBy ground free pairs 64 (getD goals i 0) (getD goals k 0) → has (waitRow ground free goals pairs n i) k ≡ t

@@ -2,13 +2,13 @@
 use mathlib.Core.Path.{_≡_, refl, sym, ap, ap₂, _∙_}
 use mathlib.Core.Bool.{Bool, true, false, _&&_}
 use mathlib.Core.List.{List}
-use Prim.Native.Nat.{ℕ, suc, compare·suc-suc, _-_, _≤_, _<_}
+use Prim.Native.Nat.{ℕ, suc, compare·suc-suc, _≤_, _<_}
 use native.Mathlib.Omega.{arith}
 use lib.Dec.{ltb, isLe}
 use lib.ListN.{getD}
 use borrow.Author.Tests.{le-leb}
 use Rattle.sets.specs.Sets.{has, setOf}
-use Rattle.sets.proofs.Builder.{setOf-lt, setOf-ext, has-setOf-in}
+use Rattle.sets.proofs.Builder.{setOf-cong, has-setOf-in}
 use Rattle.arrays.specs.Table.{table}
 use Rattle.arrays.proofs.Table.{table-at, table-cong}
 use Rattle.graph.specs.Graph.{goalsOf, rowsOf}
@@ -33,9 +33,6 @@ earlier-at n i j h =
     and-true : (p : Bool) → (true && p) && true ≡ p
     and-true true = refl
     and-true false = refl
-
-setOf-cong : (w : ℕ) (f g : ℕ → Bool) → ((i : ℕ) → i < w → f i ≡ g i) → setOf w f ≡ setOf w g
-setOf-cong w f g h = setOf-ext w (setOf w f) g (setOf-lt w f) (λ i l. has-setOf-in w f i l ∙ h i l)
 
 module _ (b : List ℕ) where
   -- the goals' variable sets

@@ -1,7 +1,8 @@
 // The waiting order of a clause record.
 ghost use mathlib.Core.Path.{_≡_};
 ghost use mathlib.Core.Bool.{cond};
-ghost use Prim.Native.Nat.{_<_, _≤_};
+ghost use Prim.Native.Nat.{_+_, _<_, _≤_};
+ghost use lib.ListN.{getD};
 ghost use denote.Ref.{now};
 ghost use Rattle.sets.specs.Sets as S;
 ghost use Rattle.record.specs.Fields as F;
@@ -60,8 +61,8 @@ pub fn waits_of(b: &[u8], goals: &[u64; 32], pairs: &[u64; 64]) -> Graph
     wait_rows(n, fields::set_at(b, 16), goals, pairs)
 }
 
-// The goals that goal i + 1 is before: those that wait for it and those that they lead to by the rows behind, which are closed. A goal that a waiting goal
-// leads to is in order already, and is not judged.
+// The goals that goal i + 1 is before: those that wait for it and those that they lead to by the rows behind, which are closed. `active` has the goals behind
+// that have a variable that is not ground; no other waits. A goal that a waiting goal leads to is in order already, and is not judged.
 fn closed_row(
     i: usize,
     n: usize,
@@ -70,14 +71,15 @@ fn closed_row(
     goals: &[u64; 32],
     pairs: &[u64; 64],
     rows: &[u32; 32],
+    active: u32,
 ) -> u32
-    requires { ⌜ (i < n) × (n ≤ 32) × C.Closed (now rows) ⌝ }
+    requires { ⌜ (i < n) × (n ≤ 32) × C.Closed (now rows) × (active ≡ W.active ground (now goals) n (i + 1)) ⌝ }
     ensures { λ r. ⌜ r ≡ C.reached (now (rows .entry)) (W.waitRow ground free (now (goals .entry)) (now (pairs .entry)) n i) ⌝ }
 {
     let a = goals[i];
     let apart = judge::apart(a, ground, free, pairs);
     let mut all = 0u32;
-    let mut left = sets::without32(sets::below32(n), sets::below32(i + 1));
+    let mut left = active;
     while left != 0 {
         let k = sets::first32(left);
         left = sets::without_first32(left);
@@ -98,11 +100,12 @@ fn row_at(
     goals: &[u64; 32],
     pairs: &[u64; 64],
     rows: &[u32; 32],
+    active: u32,
 ) -> u32
-    requires { ⌜ (i < n) × (n ≤ 32) × C.Closed (now rows) ⌝ }
+    requires { ⌜ (i < n) × (n ≤ 32) × C.Closed (now rows) × (active ≡ W.active ground (now goals) n (i + 1)) ⌝ }
     ensures { λ r. ⌜ r ≡ C.reached (now (rows .entry)) (W.waitRow ground 0 (now (goals .entry)) (now (pairs .entry)) n i) ⌝ }
 {
-    closed_row(i, n, ground, 0, goals, pairs, rows)
+    closed_row(i, n, ground, 0, goals, pairs, rows, active)
 }
 
 // The same, told at once for a goal that has ground variables alone: no goal waits for it.
@@ -113,14 +116,27 @@ fn row_of(
     goals: &[u64; 32],
     pairs: &[u64; 64],
     rows: &[u32; 32],
+    active: u32,
 ) -> u32
-    requires { ⌜ (i < n) × (n ≤ 32) × C.Closed (now rows) ⌝ }
+    requires { ⌜ (i < n) × (n ≤ 32) × C.Closed (now rows) × (active ≡ W.active ground (now goals) n (i + 1)) ⌝ }
     ensures { λ r. ⌜ r ≡ C.reached (now (rows .entry)) (W.waitRow ground 0 (now (goals .entry)) (now (pairs .entry)) n i) ⌝ }
 {
     if sets::subset(goals[i], ground) {
         return 0;
     }
-    row_at(i, n, ground, goals, pairs, rows)
+    row_at(i, n, ground, goals, pairs, rows, active)
+}
+
+// The set with goal i + 1 in it, if that has a variable that is not ground.
+fn with_active(active: u32, i: usize, ground: u64, goals: &[u64; 32]) -> u32
+    requires { ⌜ i < 32 ⌝ }
+    ensures { λ r. ⌜ r ≡ cond (S.subset (getD (now (goals .entry)) i 0) ground) active (S.union active (S.single i)) ⌝ }
+{
+    if sets::subset(goals[i], ground) {
+        active
+    } else {
+        sets::union32(active, sets::single32(i))
+    }
 }
 
 // The closure of the waits of n goals, as a new graph: from the last goal down, each row by the rows behind it.
@@ -129,10 +145,12 @@ fn close(n: usize, ground: u64, goals: &[u64; 32], pairs: &[u64; 64]) -> Graph
     ensures { λ r. ⌜ r ≡ C.closing (W.waitRows n ground (now (goals .entry)) (now (pairs .entry))) ⌝ }
 {
     let mut rows = [0u32; Graph::MAX];
+    let mut active = 0u32;
     let mut k = n;
     while k > 0 {
         k -= 1;
-        rows[k] = row_of(k, n, ground, goals, pairs, &rows);
+        rows[k] = row_of(k, n, ground, goals, pairs, &rows, active);
+        active = with_active(active, k, ground, goals);
     }
     Graph { n, rows }
 }

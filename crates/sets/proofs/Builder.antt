@@ -70,6 +70,9 @@ has-setOf-in w f i h = has-setOf w f i ∙ ap (λ (t : Bool). t && f i) (lt-ltb 
 pub setOf-ext : (w m : ℕ) (f : ℕ → Bool) → m < 2 ^ w → ((i : ℕ) → i < w → has m i ≡ f i) → m ≡ setOf w f
 setOf-ext w m f h e = ext w m (setOf w f) h (setOf-lt w f) (λ i l. e i l ∙ sym (has-setOf-in w f i l))
 
+pub setOf-cong : (w : ℕ) (f g : ℕ → Bool) → ((i : ℕ) → i < w → f i ≡ g i) → setOf w f ≡ setOf w g
+setOf-cong w f g h = setOf-ext w (setOf w f) g (setOf-lt w f) (λ i l. has-setOf-in w f i l ∙ h i l)
+
 -- a loop puts the next one in, or not
 pub setOf-more : (w : ℕ) (f : ℕ → Bool) → setOf (suc w) f ≡ cond (f w) (union (setOf w f) (single w)) (setOf w f)
 unfolding setOf

@@ -6,21 +6,19 @@ use Prim.Native.Nat.{ℕ, zero, suc, _^_, _≤_, _<_}
 use native.Mathlib.Omega.{arith}
 use lib.Dec.{eqb}
 use borrow.Author.Tests.{eqb-true, eqb-false}
-use Rattle.logic.proofs.Bools.{is-false}
+use Rattle.logic.proofs.Bools.{is-false, not-self}
 use Rattle.sets.specs.Sets.{without, single, first, count}
 use Rattle.sets.proofs.Laws.{member-below, ext}
-use Rattle.graph.specs.Graph.{hasGoal, ahead}
+use Rattle.graph.specs.Graph.{hasGoal, ahead, behind}
 use Rattle.graph.proofs.Goals.{goal-none, goal-single, single-goal, Part, part-lt, left-out, part-less, lowest-has, lowest-least}
 use Rattle.expression.specs.Expr.{Expr, goal, join, Members, one, more, Goals, NoJoin}
 use Rattle.expression.specs.Form.{chosen, upFrom}
 use Rattle.expression.specs.Arrange.{Strict}
 use Rattle.expression.specs.Split.{Component, Starts}
-use Rattle.expression.proofs.Bools.{not-self}
 use Rattle.expression.proofs.Exists.{Form, form-set, chosen-goals}
 use Rattle.expression.proofs.Arrange.{form-list-any, up-distinct, chosen-distinct}
 use Rattle.expression.proofs.Split.{FormM, form-eq, Peeled, final, further, peel-at, no-group, is-group, is-goal, is-sequence}
 use Rattle.split.specs.Split.{Has, Ordered, formOf}
-use Rattle.split.specs.Hang.{behind}
 use Rattle.split.proofs.Grow.{without-l, without-r, without-i, clash}
 
 module _ (after prior : List ℕ) where

@@ -1,24 +1,28 @@
 -- The loop that grows the part of a set that hangs together with a goal: `left` is what is not yet in it, `todo` what is in it and whose neighbours are
--- not yet looked at.
-use mathlib.Core.Path.{_≡_, refl, sym, ap, ap₂, _∙_, subst, subst₂}
-use mathlib.Core.Bool.{Bool, true, false, not, _&&_, _||_, cond, true≢false}
+-- not yet looked at; and the loop that finds the neighbours of a set.
+use mathlib.Core.Path.{_≡_, refl, sym, ap, _∙_, subst}
+use mathlib.Core.Bool.{Bool, true, false, not, _&&_, _||_, cond, or-assoc, true≢false, false≢true}
 use mathlib.Core.List.{List}
 use mathlib.Core.Logic.{_⊎_, inl, inr, ⊎-elim}
-use Prim.Native.Nat.{ℕ, suc, _^_, _<_}
-use lib.Bits.{or-zero-l}
-use lib.Dec.{eqb}
+use Prim.Native.Nat.{ℕ, zero, suc, _^_, _<_}
+use native.Mathlib.Omega.{arith}
+use lib.Bits.{or-zero-r}
+use lib.Dec.{eqb, ltb}
 use lib.ListN.{getD}
+use lib.Pow.{pow-pos}
 use borrow.Author.Tests.{eqb-true, eq-eqb, ne-eqb}
-use Rattle.logic.proofs.Bools.{and-l, and-r, and-i, or-elim, or-l, or-r, not-true, is-false}
-use Rattle.sets.specs.Sets.{has, union, meet, without, single, first, count}
-use Rattle.sets.proofs.Laws.{has-without, none-empty, first-member}
+use Rattle.logic.specs.Quantifiers.{someBelow}
+use Rattle.logic.proofs.Bools.{test, iff, and-l, and-r, and-i, or-elim, or-l, or-r, not-true, is-false}
+use Rattle.logic.proofs.Quantifiers.{below-in, below-out}
+use Rattle.sets.specs.Sets.{has, union, meet, without, single, setOf, first, count}
+use Rattle.sets.proofs.Laws.{has-union, none-empty, member-below, ext, first-member}
 use Rattle.sets.proofs.Members.{first-in}
+use Rattle.sets.proofs.Builder.{union-lt, without-lt, has-setOf, has-setOf-in}
 use Rattle.graph.specs.Graph.{hasGoal, ahead}
 use Rattle.graph.proofs.Goals.{goal-union, goal-meet, goal-without, goal-none, goal-single, single-goal, Part, part-lt, part-less}
 use Rattle.expression.specs.Split.{tie, Component}
-use Rattle.expression.proofs.Bools.{test}
 use Rattle.split.specs.Split.{Has, Turned}
-use Rattle.split.specs.Hang.{hanging, pending}
+use Rattle.split.specs.Hang.{hanging, hangingAny, pending}
 
 -- what a goal of `without a b`, of `union a b` is
 pub without-l : (a b g : ℕ) → Has (without a b) g → Has a g
@@ -33,14 +37,120 @@ without-i a b g h f = goal-without a b g ∙ and-i (hasGoal a g) (not (hasGoal b
 pub clash : {b : Bool} {A : Type 0} → b ≡ true → b ≡ false → A
 clash t f = absurd (true≢false (sym t ∙ f))
 
--- a goal that is taken off leaves nothing
-union-none : (a b : ℕ) → union (without a a) b ≡ b
-union-none a b =
-    ap (λ (m : ℕ). union m b) (none-empty (without a a) (λ i. has-without a a i ∙ go (has a i))) ∙ or-zero-l b
-  where
-    go : (p : Bool) → p && not p ≡ false
-    go true = refl
-    go false = refl
+-- ---- what hangs together with a goal of a set
+
+-- `fresh` is those of `left` that hang together with a goal of `todo`
+pub record Near (after prior : List ℕ) (k : Bool) (left todo fresh : ℕ) : Type 0 where
+  pub from : (g : ℕ) → Has fresh g → (i : ℕ) × Has todo (suc i) × Has (hanging after prior k left i) g
+  pub all : (i g : ℕ) → Has todo (suc i) → Has (hanging after prior k left i) g → Has fresh g
+
+module _ (after prior : List ℕ) (k : Bool) (left : ℕ) where
+  hanging-part : (i : ℕ) → Part (hanging after prior k left i) left
+  unfolding hanging
+  hanging-part i g = go k
+    where
+      go : (k : Bool) → Has (cond k (without left (union (getD after i 0) (getD prior i 0))) (meet left (union (getD after i 0) (getD prior i 0)))) g → Has left g
+      go true e = without-l left (union (getD after i 0) (getD prior i 0)) g e
+      go false e = and-l (hasGoal left g) (hasGoal (union (getD after i 0) (getD prior i 0)) g) (sym (goal-meet left (union (getD after i 0) (getD prior i 0)) g) ∙ e)
+
+  near-part : {todo fresh : ℕ} → Near after prior k left todo fresh → Part fresh left
+  near-part n g e = hanging-part (n .from g e .0) g (n .from g e .2)
+
+  near-single : (x : ℕ) → Near after prior k left (single x) (hanging after prior k left x)
+  near-single x =
+      record {
+        from = λ g e. (x, goal-single x, e);
+        all = λ i g u e. let s : i ≡ x = omega (arith, single-goal x (suc i) u) in ap (λ (z : ℕ). hasGoal (hanging after prior k left z) g) (sym s) ∙ e;
+      }
+
+  module _ (ll : left < 2 ^ 32) where
+    near-any : (todo : ℕ) → todo < 2 ^ 32 → Near after prior k left todo (hangingAny after prior k left todo)
+    unfolding hangingAny
+    near-any todo lt = record { from = from; all = all }
+      where
+        from : (g : ℕ) → Has (setOf 32 (λ j. someBelow 32 (λ i. has todo i && has (hanging after prior k left i) j))) g
+            → (i : ℕ) × Has todo (suc i) × Has (hanging after prior k left i) g
+        from zero e = absurd (false≢true e)
+        from (suc j) e =
+            let f : ℕ → Bool = λ i. has todo i && has (hanging after prior k left i) j in
+            let b = below-out 32 f (and-r (ltb j 32) (someBelow 32 f) (sym (has-setOf 32 (λ j. someBelow 32 (λ i. has todo i && has (hanging after prior k left i) j)) j) ∙ e)) in
+            (b .x, and-l (has todo (b .x)) (has (hanging after prior k left (b .x)) j) (b .so), and-r (has todo (b .x)) (has (hanging after prior k left (b .x)) j) (b .so))
+
+        all : (i g : ℕ) → Has todo (suc i) → Has (hanging after prior k left i) g
+            → Has (setOf 32 (λ j. someBelow 32 (λ i. has todo i && has (hanging after prior k left i) j))) g
+        all i zero u e = absurd (false≢true e)
+        all i (suc j) u e =
+            has-setOf-in 32 (λ j. someBelow 32 (λ i. has todo i && has (hanging after prior k left i) j)) j
+            (member-below 32 left j ll (hanging-part i (suc j) e))
+            ∙ below-in 32 (λ i. has todo i && has (hanging after prior k left i) j) i (member-below 32 todo i lt u)
+            (and-i (has todo i) (has (hanging after prior k left i) j) u e)
+
+    -- ---- the loop over the goals of a set that finds them: `all` is found, `todo` still to be visited
+
+    abbrev any : ℕ → ℕ
+    any todo = hangingAny after prior k left todo
+
+    -- where none is to be visited, all is found
+    pub any-end : {all todo r : ℕ} → union all (hangingAny after prior k left todo) ≡ r → todo ≡ 0 → all ≡ r
+    any-end {all} e z = sym (or-zero-r all) ∙ ap (union all) (sym (ap any z ∙ none)) ∙ e
+      where
+        none : any 0 ≡ 0
+        none =
+            none-empty (any 0)
+            (λ j.
+            is-false (has (any 0) j)
+            (λ e. let o = near-any 0 (pow-pos 32) .from (suc j) e in clash (o .1) (goal-none (suc (o .0)))))
+
+    -- the lowest is visited
+    module _ (all todo : ℕ) (la : all < 2 ^ 32) (lt : todo < 2 ^ 32) (some : todo ≡ 0 → ⊥) where
+      abbrev i : ℕ
+      i = first 32 todo
+
+      abbrev near-i : ℕ
+      near-i = hanging after prior k left i
+
+      abbrev others : ℕ
+      others = without todo (single i)
+
+      there : Has todo (suc i)
+      there = first-member 32 todo (first-in 32 todo lt some)
+
+      near-others : Near after prior k left others (any others)
+      near-others = near-any others (without-lt 32 todo (single i) lt)
+
+      parts : (j : ℕ) → has near-i j || has (any others) j ≡ has (any todo) j
+      parts j =
+          iff (has near-i j || has (any others) j) (has (any todo) j)
+          (λ e.
+          or-elim (has near-i j) (has (any others) j) e (n .all i (suc j) there)
+          (λ t. let o = near-others .from (suc j) t in n .all (o .0) (suc j) (without-l todo (single i) (suc (o .0)) (o .1)) (o .2)))
+          (λ e.
+          let o = n .from (suc j) e in
+          ⊎-elim
+          (λ s. or-l (has near-i j) (has (any others) j) (near-single i .all (o .0) (suc j) s (o .2)))
+          (λ s. or-r (has near-i j) (has (any others) j) (near-others .all (o .0) (suc j) (without-i todo (single i) (suc (o .0)) (o .1) s) (o .2)))
+          (test (hasGoal (single i) (suc (o .0)))))
+        where
+          n : Near after prior k left todo (any todo)
+          n = near-any todo lt
+
+      pub any-more : union (union all (hanging after prior k left (first 32 todo))) (hangingAny after prior k left (without todo (single (first 32 todo))))
+          ≡ union all (hangingAny after prior k left todo)
+      any-more =
+          ext 32 (union (union all near-i) (any others)) (union all (any todo))
+          (union-lt 32 (union all near-i) (any others) (union-lt 32 all near-i la (inside near-i (near-single i))) (inside (any others) near-others))
+          (union-lt 32 all (any todo) la (inside (any todo) (near-any todo lt)))
+          (λ j l.
+          has-union (union all near-i) (any others) j
+          ∙ ap (λ (t : Bool). t || has (any others) j) (has-union all near-i j)
+          ∙ or-assoc (has all j) (has near-i j) (has (any others) j)
+          ∙ ap (λ (t : Bool). has all j || t) (parts j)
+          ∙ sym (has-union all (any todo) j))
+        where
+          inside : (m : ℕ) {s : ℕ} → Near after prior k left s m → m < 2 ^ 32
+          inside m n = part-lt 32 m left (near-part n) ll
+
+-- ---- the part grows
 
 pub record Growing (after : List ℕ) (k : Bool) (set x left todo : ℕ) : Type 0 where
   pub left-in : (g : ℕ) → Has left g → Has set g
@@ -79,15 +189,6 @@ module _ (after prior : List ℕ) (k : Bool) (set : ℕ) (turned : Turned after 
         go false e =
             let m = sym (goal-meet left (union (getD after i 0) (getD prior i 0)) g) ∙ e in
             (and-l (hasGoal left g) (hasGoal (union (getD after i 0) (getD prior i 0)) g) m, and-r (hasGoal left g) (hasGoal (union (getD after i 0) (getD prior i 0)) g) m)
-
-  -- of any goal, in the set or not
-  hanging-part : (left i g : ℕ) → Has (hanging after prior k left i) g → Has left g
-  unfolding hanging
-  hanging-part left i g e = go k e
-    where
-      go : (k : Bool) → Has (cond k (without left (union (getD after i 0) (getD prior i 0))) (meet left (union (getD after i 0) (getD prior i 0)))) g → Has left g
-      go true e = without-l left (union (getD after i 0) (getD prior i 0)) g e
-      go false e = and-l (hasGoal left g) (hasGoal (union (getD after i 0) (getD prior i 0)) g) (sym (goal-meet left (union (getD after i 0) (getD prior i 0)) g) ∙ e)
 
   module _ (x : ℕ) where
     -- at first it is the goal alone
@@ -139,101 +240,66 @@ module _ (after prior : List ℕ) (k : Bool) (set : ℕ) (turned : Turned after 
           smallest = λ Q q c g e. ap Q (only g e) ∙ q;
         }
 
-    -- the neighbours of one goal more
-    module _ {left todo : ℕ} (w : Growing after k set x left todo) (i : ℕ) (u : Has todo (suc i)) where
-      abbrev fresh : ℕ
-      fresh = hanging after prior k left i
-
-      abbrev others : ℕ
-      others = without todo (single i)
-
-      mine : Has set (suc i)
-      mine = w .todo-in (suc i) u
-
-      todo-cases : (g : ℕ) → Has (union others fresh) g → Has others g ⊎ Has fresh g
-      todo-cases g e = or-elim (hasGoal others g) (hasGoal fresh g) (sym (goal-union others fresh g) ∙ e) inl inr
-
-      in-fresh : (g : ℕ) → Has fresh g → Has (union others fresh) g
-      in-fresh g e = goal-union others fresh g ∙ or-r (hasGoal others g) (hasGoal fresh g) e
-
-      in-others : (g : ℕ) → Has others g → Has (union others fresh) g
-      in-others g e = goal-union others fresh g ∙ or-l (hasGoal others g) (hasGoal fresh g) e
-
+    -- all that hangs together with a goal of `todo` comes into the part
+    module _ {left todo fresh : ℕ} (w : Growing after k set x left todo) (n : Near after prior k left todo fresh) where
       -- a goal that is no longer left is fresh, or was not left before
       taken : (g : ℕ) → hasGoal (without left fresh) g ≡ false → (hasGoal left g ≡ false) ⊎ Has fresh g
       taken g f =
           ⊎-elim (λ t. inr t)
           (λ t. inl (is-false (hasGoal left g) (λ l. clash (without-i left fresh g l t) f))) (test (hasGoal fresh g))
 
-      pub grow-on : Growing after k set x (without left fresh) (union others fresh)
+      grow-on : Growing after k set x (without left fresh) fresh
       grow-on =
           record {
             left-in = λ g e. w .left-in g (without-l left fresh g e);
-            todo-in =
-                λ g e.
-                ⊎-elim (λ t. w .todo-in g (without-l todo (single i) g t)) (λ t. w .left-in g (hanging-part left i g t)) (todo-cases g e);
-            apart =
-                λ g e.
-                is-false (hasGoal (without left fresh) g)
-                (λ l.
-                ⊎-elim (λ t. clash (without-l left fresh g l) (w .apart g (without-l todo (single i) g t))) (λ t. clash t (without-r left fresh g l))
-                (todo-cases g e));
+            todo-in = λ g e. w .left-in g (near-part after prior k left n g e);
+            apart = λ g e. is-false (hasGoal (without left fresh) g) (λ l. clash e (without-r left fresh g l));
             start = is-false (hasGoal (without left fresh) (suc x)) (λ t. clash (without-l left fresh (suc x) t) (w .start));
-            looked = looked-on;
+            looked =
+                λ g j s f t l e.
+                ⊎-elim
+                (λ (q : hasGoal left g ≡ false).
+                ⊎-elim (λ (d : Has todo g). near g j d l e) (λ (d : hasGoal todo g ≡ false). w .looked g j s q d (without-l left fresh j l) e)
+                (test (hasGoal todo g)))
+                (λ (q : Has fresh g). clash q t) (taken g f);
             smallest =
                 λ Q q c g s f.
                 ⊎-elim (λ t. w .smallest Q q c g s t)
                 (λ t.
-                c (suc i) g (w .smallest Q q c (suc i) mine (w .apart (suc i) u)) s (hanging-out left i g mine s t .1)) (taken g f);
+                let o = n .from g t in
+                let i = suc (o .0) in
+                let mine = w .todo-in i (o .1) in
+                c i g (w .smallest Q q c i mine (w .apart i (o .1))) s (hanging-out left (o .0) g mine s (o .2) .1)) (taken g f);
           }
         where
-          looked-on : (g j : ℕ) → Has set g → hasGoal (without left fresh) g ≡ false → hasGoal (union others fresh) g ≡ false → Has (without left fresh) j
-              → tie R g j ≡ not k → ⊥
-          looked-on g j s f t l e =
-              ⊎-elim
-              (λ (q : hasGoal left g ≡ false).
-              ⊎-elim
-              (λ (d : Has todo g).
-              -- it is goal i + 1, and what hangs together with it is fresh
-              let same : g ≡ suc i = one-more g d t in
-              clash
-              (hanging-in left i j mine (w .left-in j (without-l left fresh j l)) (without-l left fresh j l) (ap (λ (z : ℕ). tie R z j) (sym same) ∙ e))
-              (without-r left fresh j l))
-              (λ (d : hasGoal todo g ≡ false). w .looked g j s q d (without-l left fresh j l) e) (test (hasGoal todo g)))
-              (λ (q : Has fresh g). clash (in-fresh g q) t) (taken g f)
-            where
-              one-more : (g : ℕ) → Has todo g → hasGoal (union others fresh) g ≡ false → g ≡ suc i
-              one-more g d t =
-                  ⊎-elim (λ o. single-goal i g o) (λ o. clash (in-others g (without-i todo (single i) g d o)) t) (test (hasGoal (single i) g))
+          -- what hangs together with a goal of `todo` is fresh
+          near : (g j : ℕ) → Has todo g → Has (without left fresh) j → tie R g j ≡ not k → ⊥
+          near zero j d l e = false≢true d
+          near (suc i) j d l e =
+              let in-left = without-l left fresh j l in
+              clash (n .all i j d (hanging-in left i j (w .todo-in (suc i) d) (w .left-in j in-left) in-left e)) (without-r left fresh j l)
 
-      -- one goal less to look at
-      pub grow-less : set < 2 ^ 32 → (todo′ : ℕ) → Part todo′ (union others fresh) → count (union (without left fresh) todo′) < count (union left todo)
-      grow-less l todo′ fewer = part-less 32 (union (without left fresh) todo′) (union left todo) inside (part-lt 32 (union left todo) set all l) differ
+      -- what is left now, and to be looked at, was left; what was to be looked at is neither
+      grow-less : set < 2 ^ 32 → (todo ≡ 0 → ⊥) → (todo′ : ℕ) → Part todo′ fresh → count (union (without left fresh) todo′) < count (union left todo)
+      grow-less l some todo′ fewer =
+          part-less 32 (union (without left fresh) todo′) (union left todo)
+          (λ g e. goal-union left todo g ∙ or-l (hasGoal left g) (hasGoal todo g) (was-left g e)) (part-lt 32 (union left todo) set all l)
+          (λ e.
+          clash (was-left i (ap (λ (m : ℕ). hasGoal m i) e ∙ goal-union left todo i ∙ or-r (hasGoal left i) (hasGoal todo i) there)) (w .apart i there))
         where
+          i : ℕ
+          i = suc (first 32 todo)
+
+          there : Has todo i
+          there = first-member 32 todo (first-in 32 todo (part-lt 32 todo set (w .todo-in) l) some)
+
           all : Part (union left todo) set
           all g e = or-elim (hasGoal left g) (hasGoal todo g) (sym (goal-union left todo g) ∙ e) (w .left-in g) (w .todo-in g)
 
-          inside : Part (union (without left fresh) todo′) (union left todo)
-          inside g e =
-              goal-union left todo g
-              ∙ or-elim (hasGoal (without left fresh) g) (hasGoal todo′ g) (sym (goal-union (without left fresh) todo′ g) ∙ e)
-              (λ t. or-l (hasGoal left g) (hasGoal todo g) (without-l left fresh g t))
-              (λ t.
-              ⊎-elim (λ d. or-r (hasGoal left g) (hasGoal todo g) (without-l todo (single i) g d))
-              (λ d. or-l (hasGoal left g) (hasGoal todo g) (hanging-part left i g d)) (todo-cases g (fewer g t)))
-
-          gone : Has (union (without left fresh) todo′) (suc i) → ⊥
-          gone e =
-              or-elim (hasGoal (without left fresh) (suc i)) (hasGoal todo′ (suc i)) (sym (goal-union (without left fresh) todo′ (suc i)) ∙ e)
-              (λ t. clash (without-l left fresh (suc i) t) (w .apart (suc i) u))
-              (λ t.
-              ⊎-elim (λ d. clash (goal-single i) (without-r todo (single i) (suc i) d))
-              (λ d. clash (hanging-part left i (suc i) d) (w .apart (suc i) u)) (todo-cases (suc i) (fewer (suc i) t)))
-
-          differ : union (without left fresh) todo′ ≡ union left todo → ⊥
-          differ e =
-              gone
-              (ap (λ (m : ℕ). hasGoal m (suc i)) e ∙ goal-union left todo (suc i) ∙ or-r (hasGoal left (suc i)) (hasGoal todo (suc i)) u)
+          was-left : Part (union (without left fresh) todo′) left
+          was-left g e =
+              or-elim (hasGoal (without left fresh) g) (hasGoal todo′ g) (sym (goal-union (without left fresh) todo′ g) ∙ e)
+              (without-l left fresh g) (λ t. near-part after prior k left n g (fewer g t))
 
     -- where nothing is left, nothing is to be looked at
     grow-pending : {left todo : ℕ} → Growing after k set x left todo → Growing after k set x left (pending todo left)
@@ -260,33 +326,27 @@ module _ (after prior : List ℕ) (k : Bool) (set : ℕ) (turned : Turned after 
         go true g h = clash h (goal-none g)
         go false g h = h
 
+    -- one step, as the code takes it
+    grow-next : {left todo fresh left′ todo′ : ℕ} → Growing after k set x left todo → Near after prior k left todo fresh → left′ ≡ without left fresh
+        → todo′ ≡ pending fresh left′ → Growing after k set x left′ todo′
+    grow-next {fresh = fresh} {left′ = left′} w n el et =
+        subst (Growing after k set x left′) (sym et) (grow-pending (subst (λ (m : ℕ). Growing after k set x m fresh) (sym el) (grow-on w n)))
+
     -- the goal itself is looked at before the loop
     pub grow-begin : Has set (suc x) → {one rest fresh left todo : ℕ} → one ≡ single x → rest ≡ without set one → fresh ≡ hanging after prior k rest x
         → left ≡ without rest fresh → todo ≡ pending fresh left → Growing after k set x left todo
-    grow-begin h {one} {rest} {fresh} {left} {todo} eo er ef el et =
-        let r : without set (single x) ≡ rest = sym (er ∙ ap (without set) eo) in
-        let f : hanging after prior k (without set (single x)) x ≡ fresh = ap (λ (m : ℕ). hanging after prior k m x) r ∙ sym ef in
-        let a : without (without set (single x)) (hanging after prior k (without set (single x)) x) ≡ left = ap₂ without r f ∙ sym el in
-        let b : union (without (single x) (single x)) (hanging after prior k (without set (single x)) x) ≡ fresh
-        = union-none (single x) (hanging after prior k (without set (single x)) x) ∙ f in
-        subst (Growing after k set x left) (sym et) (grow-pending (subst₂ (Growing after k set x) a b (grow-on (grow-start h) x (goal-single x))))
+    grow-begin h {rest = rest} eo er ef =
+        grow-next (subst (λ (m : ℕ). Growing after k set x m (single x)) (sym (er ∙ ap (without set) eo)) (grow-start h))
+        (subst (Near after prior k rest (single x)) (sym ef) (near-single after prior k rest x))
 
-    module _ {left todo : ℕ} (w : Growing after k set x left todo) (l : set < 2 ^ 32) (n : todo ≡ 0 → ⊥) where
-      pub pick-under : first 32 todo < 32
-      pick-under = first-in 32 todo (part-lt 32 todo set (w .todo-in) l) n
-
-      pub grow-step : {i fresh left′ one others next todo′ : ℕ} → i ≡ first 32 todo → fresh ≡ hanging after prior k left i → left′ ≡ without left fresh
-          → one ≡ single i → others ≡ without todo one → next ≡ union others fresh → todo′ ≡ pending next left′
-          → Growing after k set x left′ todo′ × (count (union left′ todo′) < count (union left todo))
-      grow-step {i} {fresh} {left′} {one} {others} {next} {todo′} ei ef el eo ex en et =
-          let u : Has todo (suc i) = ap (λ (z : ℕ). hasGoal todo (suc z)) ei ∙ first-member 32 todo pick-under in
-          let a : without left (hanging after prior k left i) ≡ left′ = sym (el ∙ ap (without left) ef) in
-          let b : union (without todo (single i)) (hanging after prior k left i) ≡ next = sym (en ∙ ap₂ union (ex ∙ ap (without todo) eo) ef) in
-          let p : Part todo′ (union (without todo (single i)) (hanging after prior k left i))
-          = λ g h. ap (λ (m : ℕ). hasGoal m g) b ∙ pending-part next left′ g (ap (λ (m : ℕ). hasGoal m g) (sym et) ∙ h) in (
-            subst (Growing after k set x left′) (sym et) (grow-pending (subst₂ (Growing after k set x) a b (grow-on w i u))),
-            subst (λ (q : ℕ). count (union q todo′) < count (union left todo)) a (grow-less w i u l todo′ p),
-          )
+    pub grow-step : {left todo fresh left′ todo′ : ℕ} → set < 2 ^ 32 → Growing after k set x left todo → (todo ≡ 0 → ⊥)
+        → fresh ≡ hangingAny after prior k left todo → left′ ≡ without left fresh → todo′ ≡ pending fresh left′
+        → Growing after k set x left′ todo′ × (count (union left′ todo′) < count (union left todo))
+    grow-step {left} {todo} {fresh} {left′} {todo′} l w some ef el et =
+        let n : Near after prior k left todo fresh
+        = subst (Near after prior k left todo) (sym ef) (near-any after prior k left (part-lt 32 left set (w .left-in) l) todo (part-lt 32 todo set (w .todo-in) l)) in
+        let p : Part todo′ fresh = λ g h. pending-part fresh left′ g (ap (λ (m : ℕ). hasGoal m g) (sym et) ∙ h) in
+        (grow-next w n el et, subst (λ (m : ℕ). count (union m todo′) < count (union left todo)) (sym el) (grow-less w n l some todo′ p))
 
     pub grow-done : {left todo r : ℕ} → Has set (suc x) → Growing after k set x left todo → todo ≡ 0 → r ≡ without set left
         → Component (ahead after) k (Has set) (suc x) (Has r)

@@ -8,12 +8,12 @@ use Rattle.logic.proofs.Bools.{and-l, and-r, and-i, is-false}
 use Rattle.sets.specs.Sets.{meet, first, count}
 use Rattle.sets.proofs.Laws.{first-member}
 use Rattle.sets.proofs.Members.{first-in}
-use Rattle.graph.specs.Graph.{hasGoal}
+use Rattle.graph.specs.Graph.{hasGoal, behind}
 use Rattle.graph.proofs.Goals.{goal-meet, goal-none, Part, part-lt, part-less, lowest-in, lowest-has, lowest-least}
 use Rattle.expression.specs.Split.{Starts}
 use Rattle.expression.specs.Arrange.{Strict}
 use Rattle.split.specs.Split.{Has}
-use Rattle.split.specs.Hang.{behind, earlier}
+use Rattle.split.specs.Hang.{earlier}
 use Rattle.split.proofs.Grow.{clash}
 
 module _ (prior : List ℕ) (k : Bool) (rest : ℕ) where

@@ -11,7 +11,7 @@ use borrow.Author.Tests.{eq-eqb, ne-eqb}
 use Rattle.sets.specs.Sets.{without, first, count}
 use Rattle.text.specs.Text.{Wrote, decimal, only, pickText}
 use Rattle.text.proofs.Laws.{then, Left, start, onward, finish, left-kept}
-use Rattle.graph.specs.Graph.{hasGoal, ahead}
+use Rattle.graph.specs.Graph.{hasGoal, ahead, behind}
 use Rattle.graph.proofs.Goals.{goal-none, Part}
 use Rattle.expression.specs.Expr.{Expr, goal, join, Members, more}
 use Rattle.expression.specs.Split.{Component, Starts}
@@ -22,7 +22,6 @@ use Rattle.expression.proofs.Split.{FormM, form-members}
 use Rattle.split.specs.Split.{Has, Ordered, formOf, formText}
 use Rattle.split.proofs.Grow.{clash}
 use Rattle.split.proofs.Forms.{Taken, last, next, take, member-less, rest-part, ordered-part, starts-ahead, c-ordered, rest-less}
-use Rattle.split.specs.Hang.{behind}
 use Rattle.sets.proofs.Laws.{first-member}
 use Rattle.sets.proofs.Members.{first-in}
 

@@ -4,7 +4,7 @@ ghost use mathlib.Core.Bool.{true, false};
 ghost use Prim.Native.Nat.{suc, _+_, _^_, _<_};
 ghost use lib.ListN.{length};
 ghost use denote.Ref.{now};
-ghost use Rattle.graph.specs.Graph.{ahead};
+ghost use Rattle.graph.specs.Graph.{ahead, behind};
 ghost use Rattle.text.specs.Text.{Wrote};
 ghost use Rattle.expression.specs.Arrange.{Strict};
 ghost use Rattle.expression.specs.Split.{Component, Starts};
@@ -27,6 +27,20 @@ fn hanging(after: &[u32; 32], prior: &[u32; 32], k: bool, left: u32, i: usize) -
     }
 }
 
+// Those of `left` that hang together with a goal of the set.
+fn hanging_any(after: &[u32; 32], prior: &[u32; 32], k: bool, left: u32, set: u32) -> u32
+    ensures { λ r. ⌜ r ≡ Hang.hangingAny (now (after .entry)) (now (prior .entry)) k left set ⌝ }
+{
+    let mut all = 0u32;
+    let mut todo = set;
+    while todo != 0 {
+        let i = sets::first32(todo);
+        all = sets::union32(all, hanging(after, prior, k, left, i));
+        todo = sets::without_first32(todo);
+    }
+    all
+}
+
 // What is still to be looked at: nothing once the whole set is in the part.
 fn pending(todo: u32, left: u32) -> u32
     ensures { λ r. ⌜ r ≡ Hang.pending todo left ⌝ }
@@ -34,8 +48,7 @@ fn pending(todo: u32, left: u32) -> u32
     if left == 0 { 0 } else { todo }
 }
 
-// The part of the set that hangs together with goal x + 1: `left` is what is not yet in it, `todo` what is in it and whose neighbours are
-// not yet looked at.
+// The part of the set that hangs together with goal x + 1, step by step: `left` is what is not yet in it, `todo` what came into it with the last step.
 fn component(after: &[u32; 32], prior: &[u32; 32], k: bool, set: u32, x: usize) -> u32
     requires { ⌜ (x < 32) × Has set (suc x) × Turned (now after) (now prior) set ⌝ }
     ensures { λ r. ⌜ Component (ahead (now (after .entry))) k (Has set) (suc x) (Has r) ⌝ }
@@ -49,13 +62,9 @@ fn component(after: &[u32; 32], prior: &[u32; 32], k: bool, set: u32, x: usize) 
     let mut left = sets::without32(rest, first);
     let mut todo = pending(first, left);
     while todo != 0 {
-        let i = sets::first32(todo);
-        let fresh = hanging(after, prior, k, left, i);
+        let fresh = hanging_any(after, prior, k, left, todo);
         left = sets::without32(left, fresh);
-        let one = sets::single32(i);
-        let others = sets::without32(todo, one);
-        let next = sets::union32(others, fresh);
-        todo = pending(next, left);
+        todo = pending(fresh, left);
     }
     sets::without32(set, left)
 }
@@ -71,8 +80,8 @@ fn earlier(prior: &[u32; 32], k: bool, rest: u32, x: usize) -> u32
 
 // A goal, less one, of the first member: of a group the lowest goal, of a sequence one that no goal comes before.
 fn start(prior: &[u32; 32], k: bool, rest: u32) -> usize
-    requires { ⌜ Strict (Hang.behind (now prior)) (Has rest) × ((g : _) × Has rest g) ⌝ }
-    ensures { λ r. ⌜ (r < 32) × Has rest (suc r) × Starts (Hang.behind (now (prior .entry))) k (Has rest) (suc r) ⌝ }
+    requires { ⌜ Strict (behind (now prior)) (Has rest) × ((g : _) × Has rest g) ⌝ }
+    ensures { λ r. ⌜ (r < 32) × Has rest (suc r) × Starts (behind (now (prior .entry))) k (Has rest) (suc r) ⌝ }
 {
     let mut x = sets::first32(rest);
     let mut before = earlier(prior, k, rest, x);
@@ -91,9 +100,9 @@ struct Part {
 
 // The first member of what is left.
 fn member(after: &[u32; 32], prior: &[u32; 32], k: bool, rest: u32) -> Part
-    requires { ⌜ Strict (Hang.behind (now prior)) (Has rest) × Turned (now after) (now prior) rest × ((g : _) × Has rest g) ⌝ }
+    requires { ⌜ Strict (behind (now prior)) (Has rest) × Turned (now after) (now prior) rest × ((g : _) × Has rest g) ⌝ }
     ensures { λ r. ⌜ (r .start < 32) × Has rest (suc (r .start)) ⌝ }
-    ensures { λ r. ⌜ Starts (Hang.behind (now (prior .entry))) k (Has rest) (suc (r .start)) ⌝ }
+    ensures { λ r. ⌜ Starts (behind (now (prior .entry))) k (Has rest) (suc (r .start)) ⌝ }
     ensures { λ r. ⌜ Component (ahead (now (after .entry))) k (Has rest) (suc (r .start)) (Has (r .goals)) ⌝ }
 {
     let x = start(prior, k, rest);

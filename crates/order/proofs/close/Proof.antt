@@ -1,25 +1,26 @@
 use borrow.Author.Needs.{needs}
 use native.Mathlib.Omega.{arith}
-use mathlib.Core.Path.{refl, ap}
+use mathlib.Core.Path.{_≡_, refl, ap, _∙_}
 use mathlib.Core.List.{List}
-use Prim.Native.Nat.{ℕ, _≤_}
+use Prim.Native.Nat.{ℕ, _+_, _-_, _≤_}
 use denote.Ref.{now}
 use Rattle.closure.specs.Closing.{closing}
-use Rattle.order.specs.Arrays.{waitRows}
+use Rattle.order.specs.Arrays.{active, waitRows}
+use Rattle.order.proofs.Waits.{active-none, active-turn}
 use Rattle.order.proofs.Closing.{Closing, close-none, close-closed, close-turn, close-all}
 use Rattle.order.proofs.close.Statement.{statement}
 use Rattle.order.proofs.close.Tie as tie
 
 abbrev Inv-loop : tie.InvT-loop
-Inv-loop n ground goals pairs rows₀ k₀ rows k = (k ≤ n) × Closing n ground goals pairs k rows
+Inv-loop n ground goals pairs rows₀ act₀ k₀ rows act k = (k ≤ n) × Closing n ground goals pairs k rows × (act ≡ active ground goals n k)
 
 abbrev μ-loop : tie.MeasureT-loop
-μ-loop n ground goals pairs rows₀ k₀ rows k = k
+μ-loop n ground goals pairs rows₀ act₀ k₀ rows act k = k
 
 loop-holds : tie.Need-loop-holds Inv-loop μ-loop
 loop-holds c =
     let a = c .args in
-    (omega arith, close-none (a .n) (a .ground) (now (a .goals)) (now (a .pairs)) (c .pre) _ refl)
+    (omega arith, close-none (a .n) (a .ground) (now (a .goals)) (now (a .pairs)) (c .pre) _ refl, active-none (a .ground) (now (a .goals)) (a .n))
 
 sub-k : tie.Need-sub-k Inv-loop μ-loop
 sub-k c = search needs
@@ -29,7 +30,8 @@ row-of-requires c κs =
     let s = c .before .before .before in
     let a = s .args in
     let l = c .before .before .loop in
-    (omega arith, s .pre, close-closed (a .n) (a .ground) (now (a .goals)) (now (a .pairs)) (s .pre) (l .k) (l .rows) (l .inv .1))
+    let q : l .k ≡ l .k - 1 + 1 = omega arith in
+    (omega arith, s .pre, close-closed (a .n) (a .ground) (now (a .goals)) (now (a .pairs)) (s .pre) (l .k) (l .rows) (l .inv .1), l .inv .2 ∙ ap (active (a .ground) (now (a .goals)) (a .n)) q)
 
 mul-rows : tie.Need-mul-rows Inv-loop μ-loop
 mul-rows c = omega arith
@@ -37,16 +39,21 @@ mul-rows c = omega arith
 array-write-rows : tie.Need-array-write-rows Inv-loop μ-loop
 array-write-rows c = omega arith
 
+with-active-requires : tie.Need-with-active-requires Inv-loop μ-loop
+with-active-requires c κs = search needs
+
 loop-less : tie.Need-loop-less Inv-loop μ-loop
 loop-less c = omega arith
 
 loop-again : tie.Need-loop-again Inv-loop μ-loop
 loop-again c =
-    let s = c .before .before .before .before in
-    let a = s .args in
-    let l = c .before .before .before .loop in (
+    let r = c .before in
+    let l = r .before .before .before .loop in
+    let s = r .before .before .before .before in
+    let a = s .args in (
       omega arith,
-      close-turn (a .n) (a .ground) (now (a .goals)) (now (a .pairs)) (s .pre) (l .k) (c .row-of .result) (l .rows) (omega arith) (l .inv .0) (l .inv .1) (c .row-of .ensures),
+      close-turn (a .n) (a .ground) (now (a .goals)) (now (a .pairs)) (s .pre) (l .k) (r .row-of .result) (l .rows) (omega arith) (l .inv .0) (l .inv .1) (r .row-of .ensures),
+      active-turn (a .ground) (now (a .goals)) (a .n) (l .k) (l .active) (c .with-active .result) (omega arith) (l .inv .0) (l .inv .2) (c .with-active .ensures),
     )
 
 returns : tie.Need-returns Inv-loop μ-loop
@@ -68,6 +75,7 @@ close-spec =
     row-of-requires
     mul-rows
     array-write-rows
+    with-active-requires
     loop-less
     loop-again
     returns)

@@ -11,23 +11,23 @@ use Rattle.order.proofs.closed_row.Statement.{statement}
 use Rattle.order.proofs.closed_row.Tie as tie
 
 abbrev Inv-loop : tie.InvT-loop
-Inv-loop i n ground free goals pairs rows a apart all₀ left₀ all left = Judging ground free goals pairs rows n i all left
+Inv-loop i n ground free goals pairs rows active a apart all₀ left₀ all left = Judging ground free goals pairs rows n i all left
 
 abbrev μ-loop : tie.MeasureT-loop
-μ-loop i n ground free goals pairs rows a apart all₀ left₀ all left = count left
+μ-loop i n ground free goals pairs rows active a apart all₀ left₀ all left = count left
 
 -- the goal to be judged is behind goal i + 1
 behind : (c : tie.After-first32 Inv-loop μ-loop) → c .first32 .result < 32
 behind c =
-    let s = c .before .before .before .before .before .before .before .before in
+    let s = c .before .before .before .before .before in
     let l = c .before .before .loop in
     omega (arith, s .pre .1, first-behind (s .args .ground) (s .args .free) (now (s .args .goals)) (now (s .args .pairs)) (now (s .args .rows)) (s .args .n) (s .args .i) (l .all) (l .left) (l .inv) (c .before .loop-test .taken) (c .first32 .result) (c .first32 .ensures))
 
 -- and is in the row if it waits
-member : (c : tie.After-waits Inv-loop μ-loop) → let s = c .before .before .before .before .before .before .before .before .before .before .before .args in has (waitRow (s .ground) (s .free) (now (s .goals)) (now (s .pairs)) (s .n) (s .i)) (c .before .before .before .first32 .result) ≡ c .waits .result
+member : (c : tie.After-waits Inv-loop μ-loop) → let s = c .before .before .before .before .before .before .before .before .args in has (waitRow (s .ground) (s .free) (now (s .goals)) (now (s .pairs)) (s .n) (s .i)) (c .before .before .before .first32 .result) ≡ c .waits .result
 member c =
     let f = c .before .before .before in
-    let s = f .before .before .before .before .before .before .before .before .args in
+    let s = f .before .before .before .before .before .args in
     let l = f .before .before .loop in
     judged (s .ground) (s .free) (now (s .goals)) (now (s .pairs)) (now (s .rows)) (s .n) (s .i) (l .all) (l .left) (l .inv) (f .before .loop-test .taken) (f .first32 .result) (f .first32 .ensures) (c .waits .result) (c .waits .ensures)
 
@@ -40,24 +40,11 @@ element-copy-out-a c = search needs
 apart-requires : tie.Need-apart-requires Inv-loop μ-loop
 apart-requires c κs = search needs
 
-below32-requires : tie.Need-below32-requires Inv-loop μ-loop
-below32-requires c κs = search needs
-
-add-below32 : tie.Need-add-below32 Inv-loop μ-loop
-add-below32 c = search needs
-
-below32-requires-2 : tie.Need-below32-requires-2 Inv-loop μ-loop
-below32-requires-2 c κs = search needs
-
-without32-requires : tie.Need-without32-requires Inv-loop μ-loop
-without32-requires c κs = search needs
-
 loop-holds : tie.Need-loop-holds Inv-loop μ-loop
 loop-holds c =
-    let s = c .before .before .before .before .before in
+    let s = c .before .before in
     let a = s .args in
-    rw (c .without32 .ensures, c .before .below322 .ensures, c .before .before .below32 .ensures)
-    (judging-none (a .ground) (a .free) (now (a .goals)) (now (a .pairs)) (now (a .rows)) (a .n) (a .i) (s .pre .1))
+    rw (s .pre .3) (judging-none (a .ground) (a .free) (now (a .goals)) (now (a .pairs)) (now (a .rows)) (a .n) (a .i) (s .pre .1))
 
 first32-requires : tie.Need-first32-requires Inv-loop μ-loop
 first32-requires c κs = search needs
@@ -89,8 +76,8 @@ union32-requires c κs = search needs
 union32-requires-2 : tie.Need-union32-requires-2 Inv-loop μ-loop
 union32-requires-2 c κs = search needs
 
-without32-requires-2 : tie.Need-without32-requires-2 Inv-loop μ-loop
-without32-requires-2 c κs = search needs
+without32-requires : tie.Need-without32-requires Inv-loop μ-loop
+without32-requires c κs = search needs
 
 loop-less : tie.Need-loop-less Inv-loop μ-loop
 loop-less c =
@@ -98,8 +85,8 @@ loop-less c =
     let r = w .before .before in
     let f = r .before in
     let l = f .before .before .loop in
-    let s = f .before .before .before .before .before .before .before .before in
-    visit-turn-less _ _ _ (l .all) (l .left) (l .inv) (f .before .loop-test .taken) (f .first32 .result) (r .without-first32 .result) (f .first32 .ensures) (r .without-first32 .ensures) (s .pre .2) _ refl _ (c .without322 .ensures)
+    let s = f .before .before .before .before .before in
+    visit-turn-less _ _ _ (l .all) (l .left) (l .inv) (f .before .loop-test .taken) (f .first32 .result) (r .without-first32 .result) (f .first32 .ensures) (r .without-first32 .ensures) (s .pre .2) _ refl _ (c .without32 .ensures)
 
 loop-again : tie.Need-loop-again Inv-loop μ-loop
 loop-again c =
@@ -107,8 +94,8 @@ loop-again c =
     let r = w .before .before in
     let f = r .before in
     let l = f .before .before .loop in
-    let s = f .before .before .before .before .before .before .before .before in
-    visit-turn _ _ _ (l .all) (l .left) (l .inv) (f .before .loop-test .taken) (f .first32 .result) (r .without-first32 .result) (f .first32 .ensures) (r .without-first32 .ensures) (s .pre .2) _ refl _ (c .without322 .ensures)
+    let s = f .before .before .before .before .before in
+    visit-turn _ _ _ (l .all) (l .left) (l .inv) (f .before .loop-test .taken) (f .first32 .result) (r .without-first32 .result) (f .first32 .ensures) (r .without-first32 .ensures) (s .pre .2) _ refl _ (c .without32 .ensures)
     _ _ _ (c .before .before .before .single32 .ensures) (c .before .before .union32 .ensures) (c .before .union322 .ensures) (search needs) (member w ∙ c .before .before .before .before .before .if1 .taken)
 
 loop-less-2 : tie.Need-loop-less-2 Inv-loop μ-loop
@@ -139,10 +126,6 @@ closed-row-spec =
     mul-a
     element-copy-out-a
     apart-requires
-    below32-requires
-    add-below32
-    below32-requires-2
-    without32-requires
     loop-holds
     first32-requires
     without-first32-requires
@@ -154,7 +137,7 @@ closed-row-spec =
     single32-requires
     union32-requires
     union32-requires-2
-    without32-requires-2
+    without32-requires
     loop-less
     loop-again
     loop-less-2

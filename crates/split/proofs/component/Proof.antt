@@ -1,15 +1,12 @@
 use borrow.Author.Needs.{needs}
-use native.Mathlib.Omega.{arith}
 use Prim.Native.Nat.{_^_, _<_}
 use Rattle.sets.specs.Sets.{union, count}
-use Rattle.split.proofs.Grow.{Growing, grow-alone, grow-begin, pick-under, grow-step, grow-done}
+use Rattle.split.proofs.Grow.{Growing, grow-alone, grow-begin, grow-step, grow-done}
 use Rattle.split.proofs.component.Statement.{statement}
 use Rattle.split.proofs.component.Tie as tie
 use Rattle.split.proofs.component.Reads as reads
 use Rattle.split.proofs.component.Lts as lts
-use Rattle.sets.proofs.first32.Reads as first32-reads
 use Rattle.sets.proofs.single32.Reads as single32-reads
-use Rattle.sets.proofs.union32.Reads as union32-reads
 use Rattle.sets.proofs.without32.Reads as without32-reads
 use Rattle.split.proofs.hanging.Reads as hanging-reads
 use Rattle.split.proofs.pending.Reads as pending-reads
@@ -21,15 +18,14 @@ abbrev μ-loop : tie.MeasureT-loop
 μ-loop after prior k set x start rest first left₀ todo₀ left todo = count (union left todo)
 
 facts : (c : tie.After-pending2 Inv-loop μ-loop) →
-    let a = c .before .before .before .before .before .before .before .before .before .before .before .before .before .before .before .args in
-    let l = c .before .before .before .before .before .before .before .before .loop in
-    Growing (a .after .now) (a .k) (a .set) (a .x) (c .before .before .before .before .without323 .result) (c .pending2 .result)
-    × (count (union (c .before .before .before .before .without323 .result) (c .pending2 .result)) < count (union (l .left) (l .todo)))
+    let a = c .before .before .before .before .before .before .before .before .before .before .before .args in
+    let l = c .before .before .before .before .loop in
+    Growing (a .after .now) (a .k) (a .set) (a .x) (c .before .without323 .result) (c .pending2 .result)
+    × (count (union (c .before .without323 .result) (c .pending2 .result)) < count (union (l .left) (l .todo)))
 facts c =
-    let s = c .before .before .before .before .before .before .before .before .before .before .before .before .before .before .before in
+    let s = c .before .before .before .before .before .before .before .before .before .before .before in
     let l : s .args .set < 2 ^ 32 = search needs in
-    grow-step _ _ _ _ (s .pre .2) _ (c .before .before .before .before .before .before .before .before .loop .inv) l (c .before .before .before .before .before .before .before .loop-test .taken) (c .before .before .before .before .before .before .first32 .ensures) (c .before .before .before .before .before .hanging2 .ensures) (c .before .before .before .before .without323 .ensures)
-    (c .before .before .before .single322 .ensures) (c .before .before .without324 .ensures) (c .before .union32 .ensures) (c .pending2 .ensures)
+    grow-step _ _ _ _ (s .pre .2) _ l (c .before .before .before .before .loop .inv) (c .before .before .before .loop-test .taken) (c .before .before .hanging-any .ensures) (c .before .without323 .ensures) (c .pending2 .ensures)
 
 single32-requires : tie.Need-single32-requires Inv-loop μ-loop
 single32-requires c κs = search needs
@@ -56,29 +52,11 @@ loop-holds c =
     let s = c .before .before .before .before .before .before in
     grow-begin _ _ _ _ (s .pre .2) _ (s .pre .1) (c .before .before .before .before .before .single32 .ensures) (c .before .before .before .before .without32 .ensures) (c .before .before .before .hanging .ensures) (c .before .without322 .ensures) (c .pending .ensures)
 
-first32-requires : tie.Need-first32-requires Inv-loop μ-loop
-first32-requires c κs = search needs
-
-hanging-requires-2 : tie.Need-hanging-requires-2 Inv-loop μ-loop
-hanging-requires-2 c κs =
-    let s = c .before .before .before .before .before .before .before .before .before in
-    let l : s .args .set < 2 ^ 32 = search needs in
-    omega (arith, c .first32 .ensures, pick-under _ _ _ _ (s .pre .2) _ (c .before .before .loop .inv) l (c .before .loop-test .taken))
+hanging-any-requires : tie.Need-hanging-any-requires Inv-loop μ-loop
+hanging-any-requires c κs = search needs
 
 without32-requires-3 : tie.Need-without32-requires-3 Inv-loop μ-loop
 without32-requires-3 c κs = search needs
-
-single32-requires-2 : tie.Need-single32-requires-2 Inv-loop μ-loop
-single32-requires-2 c κs =
-    let s = c .before .before .before .before .before .before .before .before .before .before .before in
-    let l : s .args .set < 2 ^ 32 = search needs in
-    omega (arith, c .before .before .first32 .ensures, pick-under _ _ _ _ (s .pre .2) _ (c .before .before .before .before .loop .inv) l (c .before .before .before .loop-test .taken))
-
-without32-requires-4 : tie.Need-without32-requires-4 Inv-loop μ-loop
-without32-requires-4 c κs = search needs
-
-union32-requires : tie.Need-union32-requires Inv-loop μ-loop
-union32-requires c κs = search needs
 
 pending-requires-2 : tie.Need-pending-requires-2 Inv-loop μ-loop
 pending-requires-2 c κs = search needs
@@ -89,13 +67,13 @@ loop-less c = facts c .1
 loop-again : tie.Need-loop-again Inv-loop μ-loop
 loop-again c = facts c .0
 
-without32-requires-5 : tie.Need-without32-requires-5 Inv-loop μ-loop
-without32-requires-5 c κs = search needs
+without32-requires-4 : tie.Need-without32-requires-4 Inv-loop μ-loop
+without32-requires-4 c κs = search needs
 
 returns-2 : tie.Need-returns-2 Inv-loop μ-loop
 returns-2 c =
     let s = c .before .before .before .before .before .before .before .before .before in
-    grow-done _ _ _ _ (s .pre .2) _ (s .pre .1) (c .before .before .loop .inv) (c .before .loop-test .left) (c .without325 .ensures)
+    grow-done _ _ _ _ (s .pre .2) _ (s .pre .1) (c .before .before .loop .inv) (c .before .loop-test .left) (c .without324 .ensures)
 
 pub component-spec : {M : Type 1} → statement M
 component-spec =
@@ -110,14 +88,10 @@ component-spec =
     without32-requires-2
     pending-requires
     loop-holds
-    first32-requires
-    hanging-requires-2
+    hanging-any-requires
     without32-requires-3
-    single32-requires-2
-    without32-requires-4
-    union32-requires
     pending-requires-2
     loop-less
     loop-again
-    without32-requires-5
+    without32-requires-4
     returns-2)
