@@ -21,19 +21,9 @@ use Rattle.expression.specs.Expr.{Goals}
 use Rattle.expression.specs.Closure.{Chain, wait, link, closed}
 use Rattle.expression.proofs.Closure.{closed-chain, chain-closed, closed-agree}
 use Rattle.graph.specs.Graph.{ahead, rowsOf, graphOf, Within}
-use Rattle.graph.proofs.Rows.{rows-length, rows-say, rows-ext, rows-cong, row-lt, row-past}
+use Rattle.graph.proofs.Rows.{rows-length, rows-say, rows-ext, rows-cong, row-lt, row-past, row-out, row-in}
 use Rattle.closure.specs.Closing.{Rising, Closed, closing, reached}
 use Rattle.closure.proofs.Visits.{leads}
-
--- what a row of a relation has
-row-out : (n : ℕ) (R : ℕ → ℕ → Bool) (i j : ℕ) → n ≤ 32 → has (getD (rowsOf n R) i 0) j ≡ true → (i < n) × (j < n) × (R (suc i) (suc j) ≡ true)
-row-out n R i j h e =
-    let lj = member-below n (getD (rowsOf n R) i 0) j (row-lt n R i h) e in
-    dite (decLt i n) (λ l. (l, lj, sym (rows-say n R (suc i) (suc j) h (omega arith) l (omega arith) lj) ∙ e))
-    (λ l. absurd (false≢true (sym (ap (λ (m : ℕ). has m j) (row-past n R i (omega arith)) ∙ has-empty j) ∙ e)))
-
-row-in : (n : ℕ) (R : ℕ → ℕ → Bool) (i j : ℕ) → n ≤ 32 → i < n → j < n → R (suc i) (suc j) ≡ true → has (getD (rowsOf n R) i 0) j ≡ true
-row-in n R i j h li lj e = rows-say n R (suc i) (suc j) h (omega arith) li (omega arith) lj ∙ e
 
 -- the rows of a rising relation rise
 pub rows-rise : (n : ℕ) (R : ℕ → ℕ → Bool) → n ≤ 32 → ((i j : ℕ) → R i j ≡ true → i < j) → Rising (rowsOf n R)

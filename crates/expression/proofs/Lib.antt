@@ -1,4 +1,3 @@
-pub mod Bools
 pub mod Fits
 pub mod NoN
 pub mod Least

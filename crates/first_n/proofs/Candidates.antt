@@ -11,15 +11,14 @@ use native.Mathlib.Omega.{arith}
 use lib.Dec.{eqb}
 use lib.ListN.{getD}
 use borrow.Author.Tests.{eq-eqb, ne-eqb}
-use Rattle.logic.proofs.Bools.{is-false, and-l, and-r, or-l, or-r, not-true}
+use Rattle.logic.proofs.Bools.{is-false, and-l, and-r, or-l, or-r, not-true, or-false}
 use Rattle.sets.specs.Sets.{has, union, meet, without, single}
 use Rattle.sets.proofs.Laws.{has-union, has-meet, has-without, has-single, has-empty}
 use Rattle.graph.specs.Graph.{ahead, transposed}
-use Rattle.graph.proofs.Rows.{transposed-says}
+use Rattle.graph.proofs.Rows.{turned-has}
 use Rattle.expression.specs.Expr.{N}
 use Rattle.expression.specs.Search.{isN}
 use Rattle.expression.proofs.Search.{is-n, n-is}
-use Rattle.expression.proofs.Bools.{or-false}
 use Rattle.first_n.specs.Candidates.{leading, related, later, seconds, fourths, thirds, lasts}
 use Rattle.first_n.proofs.Loops.{atD, atC, atB}
 use Rattle.first_n.proofs.Scan.{nowhere}
@@ -53,7 +52,7 @@ pub leading-more : (prior : List ℕ) (i : ℕ) → union (leading prior i) (get
 unfolding leading
 leading-more prior i = rw (add-one i)
 
-leading-has : (prior : List ℕ) (n i j : ℕ) → j < n → has (getD prior j 0) i ≡ true → has (leading prior n) i ≡ true
+pub leading-has : (prior : List ℕ) (n i j : ℕ) → j < n → has (getD prior j 0) i ≡ true → has (leading prior n) i ≡ true
 unfolding leading
 leading-has prior zero i j l h = absurd (omega arith)
 leading-has prior (suc n) i j l h =
@@ -68,8 +67,7 @@ module _ (rows prior : List ℕ) (n : ℕ) (most : n ≤ 32) (turned : prior ≡
   R i j = ahead rows (suc i) (suc j)
 
   prior-has : (i j : ℕ) → i < n → j < n → has (getD prior i 0) j ≡ R j i
-  prior-has i j li lj =
-      ap (λ (p : List ℕ). has (getD p i 0) j) turned ∙ transposed-says n rows (suc j) (suc i) most (omega arith) lj (omega arith) li
+  prior-has i j li lj = turned-has n rows prior i j most turned li lj
 
   related-has : (i j : ℕ) → i < n → j < n → has (related rows prior i) j ≡ R i j || R j i
   unfolding related

@@ -2,7 +2,9 @@
 ghost use mathlib.Core.Path.{_≡_};
 ghost use Prim.Native.Nat.{_<_, _≤_};
 ghost use denote.Ref.{now};
-ghost use Rattle.graph.specs.Graph.{ahead, transposed};
+ghost use Rattle.graph.specs.Graph.{ahead, transposed, Within};
+ghost use Rattle.expression.specs.Expr.{Goals};
+ghost use Rattle.expression.specs.Arrange.{Strict};
 ghost use Rattle.expression.specs.Search.{firstN};
 ghost use Rattle.first_n.specs.Found as F;
 ghost use Rattle.first_n.specs.Candidates as C;
@@ -100,8 +102,8 @@ fn lasts(rows: &[u32; 32], prior: &[u32; 32], a: usize, b: usize, c: usize) -> u
     sets::without32(ds, near_c)
 }
 
-// The first N among the goals 1 to n; `prior` is `rows` with every edge turned round.
-pub fn first_n(rows: &[u32; 32], prior: &[u32; 32], n: usize) -> Found
+// The first N among the goals 1 to n; `prior` is `rows` with every edge turned round. Four loops, left as soon as it is met.
+fn search(rows: &[u32; 32], prior: &[u32; 32], n: usize) -> Found
     requires { ⌜ (n ≤ 32) × (now prior ≡ transposed n (now rows)) ⌝ }
     ensures { λ r. ⌜ F.found r ≡ firstN (ahead (now (rows .entry))) n ⌝ }
 {
@@ -132,4 +134,15 @@ pub fn first_n(rows: &[u32; 32], prior: &[u32; 32], n: usize) -> Found
         }
     }
     answer
+}
+
+// The same for a strict order, which is searched only if two goals cross: there is no N otherwise.
+pub fn first_n(rows: &[u32; 32], prior: &[u32; 32], n: usize) -> Found
+    requires { ⌜ (n ≤ 32) × (now prior ≡ transposed n (now rows)) × Strict (ahead (now rows)) (Goals n) × Within n (now rows) ⌝ }
+    ensures { λ r. ⌜ F.found r ≡ firstN (ahead (now (rows .entry))) n ⌝ }
+{
+    if crossing::some_cross(rows, prior, leading(prior, n)) {
+        return search(rows, prior, n);
+    }
+    Found::Nothing
 }

@@ -1,19 +1,17 @@
 -- Laws of rows: what the rows of a relation have, and that nothing else has it.
 use mathlib.Core.Path.{_≡_, refl, sym, ap, _∙_, subst}
-use mathlib.Core.Bool.{Bool, true, false, cond}
+use mathlib.Core.Bool.{Bool, true, false, false≢true}
 use mathlib.Core.List.{List}
 use mathlib.Core.Logic.{dite}
-use Prim.Native.Nat.{ℕ, zero, suc, _+_, _^_, _≤_, _<_}
-use native.Mathlib.Numerals.{add-one}
+use Prim.Native.Nat.{ℕ, zero, suc, _^_, _≤_, _<_}
 use native.Mathlib.Decide.{decLt}
 use native.Mathlib.Omega.{arith}
 use lib.ListN.{length, getD, replicate, length-replicate, getD-replicate}
 use lib.Pow.{pow-pos}
-use Rattle.sets.specs.Sets.{has, union, single, setOf}
-use Rattle.sets.proofs.Laws.{has-above}
-use Rattle.sets.proofs.Builder.{setOf-lt, has-setOf-in, setOf-ext, setOf-more}
+use Rattle.sets.specs.Sets.{has}
+use Rattle.sets.proofs.Laws.{has-above, has-empty, member-below}
+use Rattle.sets.proofs.Builder.{setOf-lt, has-setOf-in, setOf-ext}
 use Rattle.arrays.proofs.Table.{table-length, table-at, table-past, table-ext}
-use Rattle.arrays.specs.Table.{table}
 use Rattle.graph.specs.Graph.{hasGoal, ahead, goalsOf, rowsOf, Within, transposed}
 
 -- the set of goals of which f holds
@@ -61,6 +59,16 @@ rows-none n R zero j h b = refl
 rows-none n R (suc i) zero h b = refl
 rows-none n R (suc i) (suc j) h b = has-above n (getD (rowsOf n R) i 0) j (row-lt n R i h) (omega arith)
 
+-- what a row has, by places
+pub row-out : (n : ℕ) (R : ℕ → ℕ → Bool) (i j : ℕ) → n ≤ 32 → has (getD (rowsOf n R) i 0) j ≡ true → (i < n) × (j < n) × (R (suc i) (suc j) ≡ true)
+row-out n R i j h e =
+    let lj = member-below n (getD (rowsOf n R) i 0) j (row-lt n R i h) e in
+    dite (decLt i n) (λ l. (l, lj, sym (rows-say n R (suc i) (suc j) h (omega arith) l (omega arith) lj) ∙ e))
+    (λ l. absurd (false≢true (sym (ap (λ (m : ℕ). has m j) (row-past n R i (omega arith)) ∙ has-empty j) ∙ e)))
+
+pub row-in : (n : ℕ) (R : ℕ → ℕ → Bool) (i j : ℕ) → n ≤ 32 → i < n → j < n → R (suc i) (suc j) ≡ true → has (getD (rowsOf n R) i 0) j ≡ true
+row-in n R i j h li lj e = rows-say n R (suc i) (suc j) h (omega arith) li (omega arith) lj ∙ e
+
 -- rows that say the same on the goals, and nothing else, are those of the relation
 pub rows-ext : (n : ℕ) (R : ℕ → ℕ → Bool) (l : List ℕ) → n ≤ 32 → length l ≡ 32 → ((i : ℕ) → i < n → getD l i 0 < 2 ^ n)
     → ((i j : ℕ) → 1 ≤ i → i ≤ n → 1 ≤ j → j ≤ n → ahead l i j ≡ R i j) → ((i : ℕ) → i < 32 → n ≤ i → getD l i 0 ≡ 0) → l ≡ rowsOf n R
@@ -99,3 +107,7 @@ transposed-turned n R rows h e =
 pub transposed-says : (n : ℕ) (rows : List ℕ) (i j : ℕ) → n ≤ 32 → 1 ≤ i → i ≤ n → 1 ≤ j → j ≤ n → ahead (transposed n rows) j i ≡ ahead rows i j
 unfolding transposed
 transposed-says n rows i j h a b c d = rows-say n (λ k l. ahead rows l k) j i h c d a b
+
+pub turned-has : (n : ℕ) (rows prior : List ℕ) (i j : ℕ) → n ≤ 32 → prior ≡ transposed n rows → i < n → j < n → has (getD prior i 0) j ≡ has (getD rows j 0) i
+turned-has n rows prior i j h e li lj =
+    ap (λ (p : List ℕ). has (getD p i 0) j) e ∙ transposed-says n rows (suc j) (suc i) h (omega arith) lj (omega arith) li

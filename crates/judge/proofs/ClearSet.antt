@@ -6,11 +6,11 @@ use Prim.Native.Nat.{ℕ, _^_, _<_}
 use Rattle.logic.specs.Quantifiers.{every, implies}
 use Rattle.logic.proofs.Bools.{iff, and-l, and-r, and-i, or-elim, or-l, or-r, not-out, implies-in, implies-out}
 use Rattle.logic.proofs.Quantifiers.{every-in, every-out}
-use Rattle.sets.specs.Sets.{has, union, without, subset, setOf}
+use Rattle.sets.specs.Sets.{has, union, without, subset, setOf, common}
 use Rattle.sets.proofs.Laws.{has-union, has-without, subset-has, has-subset, member-below}
 use Rattle.sets.proofs.Builder.{union-lt, without-lt, setOf-ext, has-setOf-in}
 use Rattle.judge.specs.Independence.{only, knownIndependent, independent}
-use Rattle.judge.specs.ByRows.{listedIn, common, apart, waitsBy}
+use Rattle.judge.specs.ByRows.{listedIn, apart, waitsBy}
 use Rattle.judge.proofs.CommonRow.{listedAll, has-common, common-lt}
 
 -- of five, the first is left where the others are false

@@ -12,11 +12,11 @@ use borrow.Author.Tests.{lt-ltb, ne-eqb}
 use Rattle.logic.specs.Quantifiers.{every, implies}
 use Rattle.logic.proofs.Bools.{iff, and-l, and-r, and-i, implies-in, implies-out}
 use Rattle.logic.proofs.Quantifiers.{every-in, every-out}
-use Rattle.sets.specs.Sets.{has, meet, without, single, below, first}
+use Rattle.sets.specs.Sets.{has, meet, without, single, below, first, common}
 use Rattle.sets.proofs.Laws.{has-empty, has-meet, has-without, has-single, has-below, first-member, ext}
 use Rattle.sets.proofs.Members.{first-in}
 use Rattle.sets.proofs.Builder.{meet-lt, setOf-lt, has-setOf-in}
-use Rattle.judge.specs.ByRows.{listedIn, common}
+use Rattle.judge.specs.ByRows.{listedIn}
 
 module _ (rows : List ℕ) (w : ℕ) where
   -- y is listed with each variable of the set

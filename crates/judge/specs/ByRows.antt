@@ -3,17 +3,12 @@ use mathlib.Core.Bool.{Bool, not}
 use mathlib.Core.List.{List}
 use Prim.Native.Nat.{ℕ}
 use lib.ListN.{getD}
-use Rattle.logic.specs.Quantifiers.{every, implies}
-use Rattle.sets.specs.Sets.{has, union, without, setOf}
+use Rattle.sets.specs.Sets.{has, union, without, common}
 use Rattle.judge.specs.Independence.{independent}
 
 -- the pair of x and y is listed
 abbrev pub listedIn : List ℕ → ℕ → ℕ → Bool
 listedIn rows x y = has (getD rows x 0) y
-
--- the variables listed with each variable of a set
-unfoldable pub common : List ℕ → ℕ → ℕ → ℕ
-common rows w set = setOf w (λ y. every w (λ x. implies (has set x) (listedIn rows x y)))
 
 module _ (ground free : ℕ) (rows : List ℕ) (w : ℕ) where
   -- the variables listed with each variable of a that is neither ground nor independent of every other

@@ -1,11 +1,12 @@
 // Whether a later goal waits for an earlier one. Nothing else compares two goals.
 ghost use mathlib.Core.Path.{_≡_};
 ghost use denote.Ref.{now};
+ghost use Rattle.sets.specs.Sets as S;
 ghost use Rattle.judge.specs.ByRows as J;
 
 // The variables listed with each variable of the set.
 fn common(set: u64, rows: &[u64; 64]) -> u64
-    ensures { λ r. ⌜ r ≡ J.common (now (rows .entry)) 64 set ⌝ }
+    ensures { λ r. ⌜ r ≡ S.common (now (rows .entry)) 64 set ⌝ }
 {
     let mut all = sets::below(64);
     let mut rest = set;

@@ -9,30 +9,24 @@ use Rattle.annotator.proofs.check.Lts as lts
 use Rattle.annotator.proofs.check_text.Reads as check-text-reads
 use Rattle.decoding.proofs.read.Reads as read-reads
 
--- src/lib.rt:145:11
 read-requires : tie.Need-read-requires
 read-requires c κs = search needs
 
--- src/lib.rt:146:26
 enum-known-r : tie.Need-enum-known-r
 enum-known-r c = search needs
 
--- src/lib.rt:147:26
 enum-told : tie.Need-enum-told
 enum-told c = search needs
 
--- src/lib.rt:147:26
 check-text-requires : tie.Need-check-text-requires
 check-text-requires c κs =
     let t = c .before .before in
     let r = t .before .before .read .ensures in
     (accepted _ (r .0) (t .enum-told .given .1) .goals-to, r .1 (t .enum-told .given .1))
 
--- src/lib.rt:142:1
 returns : tie.Need-returns
 returns c = check-refused _ _ _ (c .before .before .before .read .ensures .0) (c .before .r .given .1)
 
--- src/lib.rt:142:1
 returns-2 : tie.Need-returns-2
 returns-2 c = c .check-text .ensures ∙ check-fine _ _ (c .before .before .before .before .before .read .ensures .0) (c .before .before .before .enum-told .given .1)
 

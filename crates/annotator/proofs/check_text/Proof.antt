@@ -9,35 +9,27 @@ use Rattle.compare.proofs.compare.Reads as compare-reads
 use Rattle.order.proofs.order_of.Reads as order-of-reads
 use Rattle.text_reading.proofs.read_text.Reads as read-text-reads
 
--- src/lib.rt:126:9
 goal-count-requires : tie.Need-goal-count-requires
 goal-count-requires c κs = search needs
 
--- src/lib.rt:127:9
 read-text-requires : tie.Need-read-text-requires
 read-text-requires c κs = search needs
 
--- src/lib.rt:130:26
 enum-known-outcome : tie.Need-enum-known-outcome
 enum-known-outcome c = search needs
 
--- src/lib.rt:132:17
 enum-told : tie.Need-enum-told
 enum-told c = search needs
 
--- src/lib.rt:132:17
 order-of-requires : tie.Need-order-of-requires
 order-of-requires c κs = search needs
 
--- src/lib.rt:136:34
 compare-requires : tie.Need-compare-requires
 compare-requires c κs = search needs
 
--- src/lib.rt:122:1
 returns : tie.Need-returns
 returns c = let a = c .before .before .before .before .before .before .before .args in text-turned (a .bytes .now) (a .text .now) _ (c .before .before .before .read-text .result) _ (c .before .before .before .before .goal-count .ensures) (c .before .before .before .read-text .ensures) (c .before .outcome .given .1)
 
--- src/lib.rt:122:1
 returns-2 : tie.Need-returns-2
 returns-2 c = let a = c .before .before .before .before .before .before .before .before .before .before .before .before .before .args in text-compared (a .bytes .now) (a .text .now) _ (c .before .before .before .before .before .before .before .before .before .read-text .result) (c .before .before .before .before .before .before .order-of .result) _ (c .before .before .before .before .before .before .before .before .before .before .goal-count .ensures) (search needs) (c .before .before .before .before .before .before .before .before .before .read-text .ensures) (c .before .before .before .before .before .before .before .enum-told .given .1) (c .before .before .before .before .before .before .order-of .ensures) (c .compare .ensures)
 

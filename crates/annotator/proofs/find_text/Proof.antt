@@ -15,15 +15,12 @@ use Rattle.fields.proofs.text_at.Reads as text-at-reads
 use Rattle.fields.proofs.text_length_at.Reads as text-length-at-reads
 use Rattle.record.proofs.read.Reads as read-reads
 
--- src/lib.rt:82:11
 read-requires : tie.Need-read-requires
 read-requires c κs = search needs
 
--- src/lib.rt:83:26
 enum-known-r : tie.Need-enum-known-r
 enum-known-r c = search needs
 
--- src/lib.rt:85:21
 enum-told : tie.Need-enum-told
 enum-told c = search needs
 

@@ -10,53 +10,42 @@ use Rattle.annotator.proofs.goal_text.Reads as reads
 use Rattle.annotator.proofs.goal_text.Lts as lts
 use Rattle.annotator.proofs.find_text.Reads as find-text-reads
 
--- src/lib.rt:100:11
 find-text-requires : tie.Need-find-text-requires
 find-text-requires c κs = search needs
 
--- src/lib.rt:101:24
 enum-known-s : tie.Need-enum-known-s
 enum-known-s c = search needs
 
--- src/lib.rt:103:21
 add-e : tie.Need-add-e
 add-e c =
     let a = c .before .before .before .before .before .before .args in
     let e = span-is (a .bytes .now) (a .goal) _ (c .before .before .before .before .find-text .ensures) (c .before .before .s .given .1) in
     omega (arith, e .0, e .1, span-inside (a .bytes .now) (a .goal))
 
--- src/lib.rt:104:13
 sub-result : tie.Need-sub-result
 sub-result c = search needs
 
--- src/lib.rt:104:13
 part-result-start : tie.Need-part-result-start
 part-result-start c = search needs
 
--- src/lib.rt:104:13
 part-result-end : tie.Need-part-result-end
 part-result-end c =
     let a = c .before .before .before .before .before .before .args in
     let e = span-is (a .bytes .now) (a .goal) _ (c .before .before .before .before .find-text .ensures) (c .before .before .s .given .1) in
     omega (arith, e .0, e .1, span-inside (a .bytes .now) (a .goal))
 
--- src/lib.rt:106:34
 enum-told : tie.Need-enum-told
 enum-told c = search needs
 
--- src/lib.rt:106:34
 sub-result-2 : tie.Need-sub-result-2
 sub-result-2 c = search needs
 
--- src/lib.rt:106:34
 part-result-start-2 : tie.Need-part-result-start-2
 part-result-start-2 c = search needs
 
--- src/lib.rt:106:34
 part-result-end-2 : tie.Need-part-result-end-2
 part-result-end-2 c = search needs
 
--- src/lib.rt:97:1
 returns : tie.Need-returns
 returns c =
     let a = c .before .before .before .before .before .before .before .args in
@@ -65,7 +54,6 @@ returns c =
     let n : (s .place + s .length) - s .place ≡ s .length = omega arith in
     record { block = refl; offset = omega (arith, e .0); bytes = ap₂ (λ (k l : ℕ). take k (drop l (a .bytes .now))) (n ∙ e .1) (e .0) }
 
--- src/lib.rt:97:1
 returns-2 : tie.Need-returns-2
 returns-2 c =
     let a = c .before .before .before .before .before .args in

@@ -9,41 +9,33 @@ use Rattle.graph.proofs.Graph.empty.Reads as empty-reads
 use Rattle.order.proofs.order_of.Reads as order-of-reads
 use Rattle.decoding.proofs.read.Reads as read-reads
 
--- src/lib.rt:57:11
 read-requires : tie.Need-read-requires
 read-requires c κs = search needs
 
--- src/lib.rt:59:48
 enum-told : tie.Need-enum-told
 enum-told c = search needs
 
--- src/lib.rt:59:48
 goal-count-requires : tie.Need-goal-count-requires
 goal-count-requires c κs = search needs
 
--- src/lib.rt:60:17
 order-of-requires : tie.Need-order-of-requires
 order-of-requires c κs =
     let t = c .before .before .before in
     let r = t .before .before .read .ensures in
     (accepted _ (r .0) (t .enum-told .given .1) .goals-to, r .1 (t .enum-told .given .1))
 
--- src/lib.rt:63:26
 enum-known-r : tie.Need-enum-known-r
 enum-known-r c = search needs
 
--- src/lib.rt:65:17
 empty-requires : tie.Need-empty-requires
 empty-requires c κs = search needs
 
--- src/lib.rt:53:1
 returns : tie.Need-returns
 returns c =
     let t = c .before .before .before .before in
     let r = t .before .before .read .ensures .0 in
     (read-fine _ r (t .enum-told .given .1) (c .before .before .before .goal-count .ensures), order-fine _ r (t .enum-told .given .1) (c .order-of .ensures))
 
--- src/lib.rt:53:1
 returns-2 : tie.Need-returns-2
 returns-2 c = (read-refused _ _ (c .before .before .before .before .read .ensures .0) (c .before .before .r .given .1), order-refused _ _ (c .before .before .before .before .read .ensures .0) (c .before .before .r .given .1) (c .empty .ensures))
 

@@ -9,27 +9,21 @@ use Rattle.annotator.proofs.read.Lts as lts
 use Rattle.annotator.proofs.goal_count.Reads as goal-count-reads
 use Rattle.record.proofs.read.Reads as read-reads
 
--- src/lib.rt:46:11
 read-requires : tie.Need-read-requires
 read-requires c κs = search needs
 
--- src/lib.rt:47:47
 enum-told : tie.Need-enum-told
 enum-told c = search needs
 
--- src/lib.rt:47:47
 goal-count-requires : tie.Need-goal-count-requires
 goal-count-requires c κs = search needs
 
--- src/lib.rt:48:26
 enum-known-r : tie.Need-enum-known-r
 enum-known-r c = search needs
 
--- src/lib.rt:43:1
 returns : tie.Need-returns
 returns c = read-fine _ (c .before .before .before .read .ensures) (c .before .enum-told .given .1) (c .goal-count .ensures)
 
--- src/lib.rt:43:1
 returns-2 : tie.Need-returns-2
 returns-2 c = read-refused _ _ (c .before .before .before .read .ensures) (c .before .r .given .1)
 

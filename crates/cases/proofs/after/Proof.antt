@@ -11,19 +11,15 @@ use Rattle.cases.proofs.after.Reads as reads
 use Rattle.cases.proofs.after.Lts as lts
 use Rattle.cases.proofs.find.Reads as find-reads
 
--- src/lib.rt:30:9
 find-requires : tie.Need-find-requires
 find-requires c κs = search needs
 
--- src/lib.rt:31:23
 add-result : tie.Need-add-result
 add-result c = search needs
 
--- src/lib.rt:25:1
 returns : tie.Need-returns
 returns c = let a = c .before .before .before .args in let f = c .before .find .ensures in (past-hit (a .stop) (a .s .now) (a .from) _ (f .0), (omega arith, omega arith))
 
--- src/lib.rt:25:1
 returns-2 : tie.Need-returns-2
 returns-2 c = let a = c .before .before .before .args in let f = c .before .find .ensures in (past-none (a .stop) (a .s .now) (a .from) _ (f .0) (omega arith), (omega arith, omega arith))
 

@@ -19,71 +19,54 @@ Inv-loop s out₀ o₀ i₀ out o i = (i ≤ length s) × (o ≤ i) × Left (byt
 abbrev μ-loop : tie.MeasureT-loop
 μ-loop s out₀ o₀ i₀ out o i = length s - i
 
--- src/lib.rt:92:5
 loop-holds : tie.Need-loop-holds Inv-loop μ-loop
 loop-holds c = (omega arith, omega arith, start _ _ _)
 
--- src/lib.rt:93:12
 add-if1 : tie.Need-add-if1 Inv-loop μ-loop
 add-if1 c = search needs
 
--- src/lib.rt:94:13
 same-length : tie.Need-same-length Inv-loop μ-loop
 same-length c = left-kept (c .before .before .loop .inv .2)
 
--- src/lib.rt:94:13
 returns : tie.Need-returns Inv-loop μ-loop
 returns c = let a = c .before .before .before .before .before .args in let l = c .before .before .loop in done (l .inv .2) (bytes-last (a .s .now) (l .i) (c .if1 .taken))
 
--- src/lib.rt:96:24
 shared-slice-read-nibble : tie.Need-shared-slice-read-nibble Inv-loop μ-loop
 shared-slice-read-nibble c = search needs
 
--- src/lib.rt:96:17
 nibble-requires : tie.Need-nibble-requires Inv-loop μ-loop
 nibble-requires c κs = search needs
 
--- src/lib.rt:96:17
 mul-b : tie.Need-mul-b Inv-loop μ-loop
 mul-b c = omega arith
 
--- src/lib.rt:96:46
 add-nibble : tie.Need-add-nibble Inv-loop μ-loop
 add-nibble c = search needs
 
--- src/lib.rt:96:44
 shared-slice-read-nibble-2 : tie.Need-shared-slice-read-nibble-2 Inv-loop μ-loop
 shared-slice-read-nibble-2 c = search needs
 
--- src/lib.rt:96:37
 nibble-requires-2 : tie.Need-nibble-requires-2 Inv-loop μ-loop
 nibble-requires-2 c κs = search needs
 
--- src/lib.rt:96:17
 add-b : tie.Need-add-b Inv-loop μ-loop
 add-b c = omega arith
 
--- src/lib.rt:97:9
 put-byte-requires : tie.Need-put-byte-requires Inv-loop μ-loop
 put-byte-requires c κs = omega arith
 
--- src/lib.rt:98:9
 add-i : tie.Need-add-i Inv-loop μ-loop
 add-i c = search needs
 
--- src/lib.rt:92:5
 loop-less : tie.Need-loop-less Inv-loop μ-loop
 loop-less c = search needs
 
--- src/lib.rt:92:5
 loop-again : tie.Need-loop-again Inv-loop μ-loop
 loop-again c = let a = c .before .before .before .before .before .before .before .before .before .before .before .before .before .args in let l = c .before .before .before .before .before .before .before .before .before .before .loop in (omega arith, omega arith, onward (l .inv .2) (c .before .before .put-byte .ensures) (rw (c .before .before .before .before .before .before .nibble .ensures .0, c .before .before .before .before .nibble2 .ensures .0) (bytes-more (a .s .now) (l .i) (omega arith))))
 
--- src/lib.rt:87:1
 same-length-2 : tie.Need-same-length-2 Inv-loop μ-loop
 same-length-2 c = left-kept (c .before .loop .inv .2)
 
--- src/lib.rt:87:1
 returns-2 : tie.Need-returns-2 Inv-loop μ-loop
 returns-2 c = let a = c .before .before .before .before .args in let l = c .before .loop in done (l .inv .2) (bytes-end (a .s .now) (l .i) (omega arith))
 

@@ -12,27 +12,21 @@ use Rattle.cases.proofs.field.Lts as lts
 use Rattle.cases.proofs.field_start.Reads as field-start-reads
 use Rattle.cases.proofs.find.Reads as find-reads
 
--- src/lib.rt:52:9
 field-start-requires : tie.Need-field-start-requires
 field-start-requires c κs = search needs
 
--- src/lib.rt:53:9
 find-requires : tie.Need-find-requires
 find-requires c κs = search needs
 
--- src/lib.rt:54:5
 sub-result : tie.Need-sub-result
 sub-result c = search needs
 
--- src/lib.rt:54:5
 part-result-start : tie.Need-part-result-start
 part-result-start c = search needs
 
--- src/lib.rt:54:5
 part-result-end : tie.Need-part-result-end
 part-result-end c = search needs
 
--- src/lib.rt:49:1
 returns : tie.Need-returns
 returns c =
     let l = c .before .before .before .before .args .s .now in

@@ -17,27 +17,21 @@ Inv-loop s k at₀ i₀ at i = (at ≤ length s) × (i ≤ k) × (drop at s ≡ 
 abbrev μ-loop : tie.MeasureT-loop
 μ-loop s k at₀ i₀ at i = k - i
 
--- src/lib.rt:41:5
 loop-holds : tie.Need-loop-holds Inv-loop μ-loop
 loop-holds c = (omega arith, omega arith, fields-zero _)
 
--- src/lib.rt:42:9
 after-requires : tie.Need-after-requires Inv-loop μ-loop
 after-requires c κs = search needs
 
--- src/lib.rt:43:9
 add-i : tie.Need-add-i Inv-loop μ-loop
 add-i c = search needs
 
--- src/lib.rt:41:5
 loop-less : tie.Need-loop-less Inv-loop μ-loop
 loop-less c = search needs
 
--- src/lib.rt:41:5
 loop-again : tie.Need-loop-again Inv-loop μ-loop
 loop-again c = let a = c .before .before .before .before .args in let l = c .before .before .loop in (c .after .ensures .1 .1, omega arith, c .after .ensures .0 ∙ ap (past 32) (l .inv .2) ∙ sym (fields-more (a .s .now) (l .i)))
 
--- src/lib.rt:35:1
 returns : tie.Need-returns Inv-loop μ-loop
 returns c = let a = c .before .before .before .args in let l = c .before .loop in let e : l .i ≡ a .k = omega arith in (l .inv .2 ∙ ap (λ (k : ℕ). pastFields k (a .s .now)) e, l .inv .0)
 

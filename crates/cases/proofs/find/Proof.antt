@@ -16,31 +16,24 @@ Inv-loop s from stop at₀ at = (from ≤ at) × (at ≤ length s) × (at + upTo
 abbrev μ-loop : tie.MeasureT-loop
 μ-loop s from stop at₀ at = length s - at
 
--- src/lib.rt:15:5
 loop-holds : tie.Need-loop-holds Inv-loop μ-loop
 loop-holds c = (omega arith, omega arith, refl)
 
--- src/lib.rt:16:12
 shared-slice-read-if1 : tie.Need-shared-slice-read-if1 Inv-loop μ-loop
 shared-slice-read-if1 c = search needs
 
--- src/lib.rt:17:13
 returns : tie.Need-returns Inv-loop μ-loop
 returns c = let a = c .before .before .before .before .args in let l = c .before .before .before .loop in (omega (arith, l .inv .2, up-hit (a .stop) (a .s .now) (l .at) (omega arith) (search)), (l .inv .0, l .inv .1))
 
--- src/lib.rt:19:9
 add-at : tie.Need-add-at Inv-loop μ-loop
 add-at c = search needs
 
--- src/lib.rt:15:5
 loop-less : tie.Need-loop-less Inv-loop μ-loop
 loop-less c = search needs
 
--- src/lib.rt:15:5
 loop-again : tie.Need-loop-again Inv-loop μ-loop
 loop-again c = let a = c .before .before .before .before .args in let l = c .before .before .before .loop in (omega arith, omega arith, omega (arith, l .inv .2, up-miss (a .stop) (a .s .now) (l .at) (omega arith) (search)))
 
--- src/lib.rt:9:1
 returns-2 : tie.Need-returns-2 Inv-loop μ-loop
 returns-2 c = let a = c .before .before .args in let l = c .before .loop in (omega (arith, l .inv .2, up-end (a .stop) (a .s .now) (l .at) (omega arith)), (l .inv .0, l .inv .1))
 

@@ -20,47 +20,36 @@ Inv-loop a b n goals uneven₀ k₀ uneven k = (k ≤ n) × (uneven ≡ setOf k 
 abbrev μ-loop : tie.MeasureT-loop
 μ-loop a b n goals uneven₀ k₀ uneven k = n - k
 
--- src/lib.rt:38:9
 below32-requires : tie.Need-below32-requires Inv-loop μ-loop
 below32-requires c κs = search needs
 
--- src/lib.rt:40:5
 loop-holds : tie.Need-loop-holds Inv-loop μ-loop
 loop-holds c = (omega arith, marks-start (c .before .args .n) (c .before .args .a .now) (c .before .args .b .now))
 
--- src/lib.rt:41:23
 mul-odd : tie.Need-mul-odd Inv-loop μ-loop
 mul-odd c = search needs
 
--- src/lib.rt:41:23
 element-copy-out-odd : tie.Need-element-copy-out-odd Inv-loop μ-loop
 element-copy-out-odd c = search needs
 
--- src/lib.rt:41:29
 mul-odd-2 : tie.Need-mul-odd-2 Inv-loop μ-loop
 mul-odd-2 c = search needs
 
--- src/lib.rt:41:29
 element-copy-out-odd-2 : tie.Need-element-copy-out-odd-2 Inv-loop μ-loop
 element-copy-out-odd-2 c = search needs
 
--- src/lib.rt:41:12
 odd-requires : tie.Need-odd-requires Inv-loop μ-loop
 odd-requires c κs = search needs
 
--- src/lib.rt:42:31
 single32-requires : tie.Need-single32-requires Inv-loop μ-loop
 single32-requires c κs = search needs
 
--- src/lib.rt:40:9
 add-k : tie.Need-add-k Inv-loop μ-loop
 add-k c = search needs
 
--- src/lib.rt:40:5
 loop-less : tie.Need-loop-less Inv-loop μ-loop
 loop-less c = search needs
 
--- src/lib.rt:40:5
 loop-again : tie.Need-loop-again Inv-loop μ-loop
 loop-again c =
     let l = c .before .before .before .before .before .loop in
@@ -70,55 +59,42 @@ loop-again c =
           (λ w. w .1 ∙ more .1 (sym (c .before .odd .ensures) ∙ w .0 .left)) (c .if1 .came),
     )
 
--- src/lib.rt:46:9
 returns : tie.Need-returns Inv-loop μ-loop
 returns c = compare-end (c .before .before .before .before .args .n) (c .before .before .before .before .args .a .now) (c .before .before .before .before .args .b .now) (c .before .before .before .before .pre) _ (c .before .before .loop .k) (c .before .loop-test .left) (c .before .before .loop .inv .0) (c .before .before .loop .inv .1) (c .if2 .taken)
 
--- src/lib.rt:48:13
 lowest-requires : tie.Need-lowest-requires Inv-loop μ-loop
 lowest-requires c κs = search needs
 
--- src/lib.rt:48:13
 cast-i : tie.Need-cast-i Inv-loop μ-loop
 cast-i c = search needs
 
--- src/lib.rt:49:31
 mul-odd-3 : tie.Need-mul-odd-3 Inv-loop μ-loop
 mul-odd-3 c = search needs
 
--- src/lib.rt:49:31
 element-copy-out-odd-3 : tie.Need-element-copy-out-odd-3 Inv-loop μ-loop
 element-copy-out-odd-3 c = (compare-row (c .before .before .before .before .before .args .n) (c .before .before .before .before .before .args .a .now) (c .before .before .before .before .before .args .b .now) (c .before .before .before .before .before .pre) _ (c .before .before .before .loop .k) (c .before .before .loop-test .left) (c .before .before .before .loop .inv .0) (c .before .before .before .loop .inv .1) (c .before .if2 .left) _ (c .lowest .ensures)) .1
 
--- src/lib.rt:49:37
 mul-odd-4 : tie.Need-mul-odd-4 Inv-loop μ-loop
 mul-odd-4 c = search needs
 
--- src/lib.rt:49:37
 element-copy-out-odd-4 : tie.Need-element-copy-out-odd-4 Inv-loop μ-loop
 element-copy-out-odd-4 c = (compare-row (c .before .before .before .before .before .before .args .n) (c .before .before .before .before .before .before .args .a .now) (c .before .before .before .before .before .before .args .b .now) (c .before .before .before .before .before .before .pre) _ (c .before .before .before .before .loop .k) (c .before .before .before .loop-test .left) (c .before .before .before .before .loop .inv .0) (c .before .before .before .before .loop .inv .1) (c .before .before .if2 .left) _ (c .before .lowest .ensures)) .1
 
--- src/lib.rt:49:20
 odd-requires-2 : tie.Need-odd-requires-2 Inv-loop μ-loop
 odd-requires-2 c κs = search needs
 
--- src/lib.rt:49:13
 lowest-requires-2 : tie.Need-lowest-requires-2 Inv-loop μ-loop
 lowest-requires-2 c κs = search needs
 
--- src/lib.rt:49:13
 cast-j : tie.Need-cast-j Inv-loop μ-loop
 cast-j c = search needs
 
--- src/lib.rt:50:32
 add-t23 : tie.Need-add-t23 Inv-loop μ-loop
 add-t23 c = let l = compare-row (c .before .before .before .before .before .before .before .before .before .args .n) (c .before .before .before .before .before .before .before .before .before .args .a .now) (c .before .before .before .before .before .before .before .before .before .args .b .now) (c .before .before .before .before .before .before .before .before .before .pre) _ (c .before .before .before .before .before .before .before .loop .k) (c .before .before .before .before .before .before .loop-test .left) (c .before .before .before .before .before .before .before .loop .inv .0) (c .before .before .before .before .before .before .before .loop .inv .1) (c .before .before .before .before .before .if2 .left) _ (c .before .before .before .before .lowest .ensures) in omega (arith, l .1)
 
--- src/lib.rt:50:42
 add-t27 : tie.Need-add-t27 Inv-loop μ-loop
 add-t27 c = let l = compare-place (c .before .before .before .before .before .before .before .before .before .args .n) (c .before .before .before .before .before .before .before .before .before .args .a .now) (c .before .before .before .before .before .before .before .before .before .args .b .now) (c .before .before .before .before .before .before .before .before .before .pre) _ (c .before .before .before .before .before .before .before .loop .k) (c .before .before .before .before .before .before .loop-test .left) (c .before .before .before .before .before .before .before .loop .inv .0) (c .before .before .before .before .before .before .before .loop .inv .1) (c .before .before .before .before .before .if2 .left) _ (c .before .before .before .before .lowest .ensures) _ (c .before .before .before .before .before .before .before .before .below32 .ensures) _ (c .lowest2 .ensures ∙ ap (λ z. first 32 z) (c .before .odd2 .ensures)) in omega arith
 
--- src/lib.rt:34:1
 returns-2 : tie.Need-returns-2 Inv-loop μ-loop
 returns-2 c = compare-hit (c .before .before .before .before .before .before .before .before .before .args .n) (c .before .before .before .before .before .before .before .before .before .args .a .now) (c .before .before .before .before .before .before .before .before .before .args .b .now) (c .before .before .before .before .before .before .before .before .before .pre) _ (c .before .before .before .before .before .before .before .loop .k) (c .before .before .before .before .before .before .loop-test .left) (c .before .before .before .before .before .before .before .loop .inv .0) (c .before .before .before .before .before .before .before .loop .inv .1) (c .before .before .before .before .before .if2 .left) _ (c .before .before .before .before .lowest .ensures) _ (c .before .before .before .before .before .before .before .before .below32 .ensures) _ (c .lowest2 .ensures ∙ ap (λ z. first 32 z) (c .before .odd2 .ensures))
 

@@ -4,49 +4,40 @@ use mathlib.Core.Path.{_≡_, sym, ap, _∙_}
 use Prim.Native.Nat.{_<_, _^_}
 use native.Mathlib.Omega.{arith}
 use lib.ListN.{length, getD}
-use Rattle.sets.specs.Sets.{meet, members}
+use Rattle.sets.specs.Sets.{meet, members, common}
 use Rattle.sets.proofs.Members.{fewer, first-in}
 use Rattle.sets.proofs.Builder.{meet-lt, without-lt}
-use Rattle.judge.specs.ByRows as J
 use Rattle.judge.proofs.CommonRow.{below-lt, common-start, common-more, common-none, common-end}
 use Rattle.judge.proofs.common.Statement.{statement}
 use Rattle.judge.proofs.common.Tie as tie
 
 abbrev Inv-loop : tie.InvT-loop
-Inv-loop set rows all₀ rest₀ all rest = (rest < 2 ^ 64) × (all < 2 ^ 64) × (meet all (J.common rows 64 rest) ≡ J.common rows 64 set)
+Inv-loop set rows all₀ rest₀ all rest = (rest < 2 ^ 64) × (all < 2 ^ 64) × (meet all (common rows 64 rest) ≡ common rows 64 set)
 
 abbrev μ-loop : tie.MeasureT-loop
 μ-loop set rows all₀ rest₀ all rest = length (members 64 rest)
 
--- src/lib.rt:10:9
 below-requires : tie.Need-below-requires Inv-loop μ-loop
 below-requires c κs = search needs
 
--- src/lib.rt:12:5
 loop-holds : tie.Need-loop-holds Inv-loop μ-loop
-loop-holds c = (c .before .fits .set .fits, omega (arith, c .below .ensures, below-lt (now (c .before .args .rows)) 64), ap (λ m. meet m (J.common (now (c .before .args .rows)) 64 (c .before .args .set))) (c .below .ensures) ∙ common-start (now (c .before .args .rows)) 64 (c .before .args .set))
+loop-holds c = (c .before .fits .set .fits, omega (arith, c .below .ensures, below-lt (now (c .before .args .rows)) 64), ap (λ m. meet m (common (now (c .before .args .rows)) 64 (c .before .args .set))) (c .below .ensures) ∙ common-start (now (c .before .args .rows)) 64 (c .before .args .set))
 
--- src/lib.rt:13:13
 first-requires : tie.Need-first-requires Inv-loop μ-loop
 first-requires c κs = search needs
 
--- src/lib.rt:14:36
 cast-meet : tie.Need-cast-meet Inv-loop μ-loop
 cast-meet c = search needs
 
--- src/lib.rt:14:31
 mul-meet : tie.Need-mul-meet Inv-loop μ-loop
 mul-meet c = search needs
 
--- src/lib.rt:14:31
 element-copy-out-meet : tie.Need-element-copy-out-meet Inv-loop μ-loop
 element-copy-out-meet c = omega (arith, c .first .ensures, first-in 64 (c .before .before .loop .rest) (c .before .before .loop .inv .0) (c .before .loop-test .taken))
 
--- src/lib.rt:14:9
 meet-requires : tie.Need-meet-requires Inv-loop μ-loop
 meet-requires c κs = search needs
 
--- src/lib.rt:16:13
 returns : tie.Need-returns Inv-loop μ-loop
 returns c =
     let l = c .before .before .before .before .before .loop in
@@ -56,17 +47,14 @@ returns c =
     ∙ c .if1 .taken in
     common-none rows 64 (l .rest) (l .inv .0) (c .before .before .before .before .loop-test .taken) (l .all) (l .inv .1) none ∙ l .inv .2
 
--- src/lib.rt:18:9
 without-first-requires : tie.Need-without-first-requires Inv-loop μ-loop
 without-first-requires c κs = omega (arith, c .before .before .before .before .loop-test .taken)
 
--- src/lib.rt:12:5
 loop-less : tie.Need-loop-less Inv-loop μ-loop
 loop-less c =
     let l = c .before .before .before .before .before .before .loop in
     rw (c .without-first .ensures) (fewer 64 (l .rest) (l .inv .0) (c .before .before .before .before .before .loop-test .taken))
 
--- src/lib.rt:12:5
 loop-again : tie.Need-loop-again Inv-loop μ-loop
 loop-again c =
     let l = c .before .before .before .before .before .before .loop in
@@ -77,12 +65,11 @@ loop-again c =
       common-more rows 64 (l .rest) (l .inv .0) (c .before .before .before .before .before .loop-test .taken) (l .all) (l .inv .1) ∙ l .inv .2,
     )
 
--- src/lib.rt:7:1
 returns-2 : tie.Need-returns-2 Inv-loop μ-loop
 returns-2 c =
     let l = c .before .loop in
     let rows = now (c .before .before .before .args .rows) in
-    sym (common-end rows 64 (l .all) (l .inv .1)) ∙ ap (λ m. meet (l .all) (J.common rows 64 m)) (sym (c .loop-test .left)) ∙ l .inv .2
+    sym (common-end rows 64 (l .all) (l .inv .1)) ∙ ap (λ m. meet (l .all) (common rows 64 m)) (sym (c .loop-test .left)) ∙ l .inv .2
 
 pub common-spec : {M : Type 1} → statement M
 common-spec =

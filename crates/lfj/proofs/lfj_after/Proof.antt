@@ -11,27 +11,21 @@ use Rattle.graph.proofs.Graph.row.Reads as row-reads
 use Rattle.annotator.proofs.inside.Reads as inside-reads
 use Rattle.lfj.proofs.refused.Reads as refused-reads
 
--- src/lib.rt:49:9
 order-requires : tie.Need-order-requires
 order-requires c κs = search needs
 
--- src/lib.rt:52:29
 enum-known-reading : tie.Need-enum-known-reading
 enum-known-reading c = search needs
 
--- src/lib.rt:52:35
 refused-requires : tie.Need-refused-requires
 refused-requires c κs = search needs
 
--- src/lib.rt:53:30
 enum-known-reading-2 : tie.Need-enum-known-reading-2
 enum-known-reading-2 c = search needs
 
--- src/lib.rt:55:16
 inside-requires : tie.Need-inside-requires
 inside-requires c κs = search needs
 
--- src/lib.rt:57:24
 row-requires : tie.Need-row-requires
 row-requires c κs =
     let b = c .before .before .before .before .before .before .before .before .args .bytes .now in
@@ -39,11 +33,9 @@ row-requires c κs =
     let fine = accepted b (c .before .before .before .before .before .before .order .ensures .0) (c .before .before .before .before .reading2 .given .1) in
     in-range b g (fine-well-formed b (fine .0)) (tested b g (c .before .before .inside .ensures) (c .before .if1 .taken) (fine .1))
 
--- src/lib.rt:57:24
 cast-result : tie.Need-cast-result
 cast-result c = search needs
 
--- src/lib.rt:57:17
 returns : tie.Need-returns
 returns c =
     let b = c .before .before .before .before .before .before .before .before .before .args .bytes .now in
@@ -51,15 +43,12 @@ returns c =
     let fine = accepted b (c .before .before .before .before .before .before .before .order .ensures .0) (c .before .before .before .before .before .reading2 .given .1) in
     after-row b g (fine .0) (c .before .before .before .before .before .before .before .order .ensures .1) (tested b g (c .before .before .before .inside .ensures) (c .before .before .if1 .taken) (fine .1)) (c .row .ensures)
 
--- src/lib.rt:59:13
 refused-requires-2 : tie.Need-refused-requires-2
 refused-requires-2 c κs = search needs
 
--- src/lib.rt:45:1
 returns-2 : tie.Need-returns-2
 returns-2 c = after-refused _ _ _ (c .before .before .before .before .order .ensures .0) (c .before .before .reading .given .1) (c .refused .ensures)
 
--- src/lib.rt:45:1
 returns-3 : tie.Need-returns-3
 returns-3 c =
     let b = c .before .before .before .before .before .before .before .before .args .bytes .now in

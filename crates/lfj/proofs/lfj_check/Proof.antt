@@ -8,31 +8,24 @@ use Rattle.annotator.proofs.check.Reads as check-reads
 use Rattle.lfj.proofs.refused.Reads as refused-reads
 use Rattle.lfj.proofs.verdict.Reads as verdict-reads
 
--- src/lib.rt:161:11
 check-requires : tie.Need-check-requires
 check-requires c κs = search needs
 
--- src/lib.rt:162:31
 enum-known-r : tie.Need-enum-known-r
 enum-known-r c = search needs
 
--- src/lib.rt:162:37
 refused-requires : tie.Need-refused-requires
 refused-requires c κs = search needs
 
--- src/lib.rt:163:30
 enum-known-v : tie.Need-enum-known-v
 enum-known-v c = search needs
 
--- src/lib.rt:163:36
 verdict-requires : tie.Need-verdict-requires
 verdict-requires c κs = search needs
 
--- src/lib.rt:157:1
 returns : tie.Need-returns
 returns c = check-refused _ (c .before .before .before .before .check .ensures) (c .before .before .r .given .1) (c .refused .ensures)
 
--- src/lib.rt:157:1
 returns-2 : tie.Need-returns-2
 returns-2 c = check-verdict (c .before .before .before .before .check .ensures) (c .before .before .v .given .1) (c .verdict .ensures)
 

@@ -9,55 +9,42 @@ use Rattle.lfj.proofs.low.Reads as low-reads
 use Rattle.lfj.proofs.no_form.Reads as no-form-reads
 use Rattle.lfj.proofs.refused.Reads as refused-reads
 
--- src/lib.rt:97:11
 form-requires : tie.Need-form-requires
 form-requires c κs = search needs
 
--- src/lib.rt:98:32
 enum-known-r : tie.Need-enum-known-r
 enum-known-r c = search needs
 
--- src/lib.rt:98:38
 refused-requires : tie.Need-refused-requires
 refused-requires c κs = search needs
 
--- src/lib.rt:99:31
 enum-known-q : tie.Need-enum-known-q
 enum-known-q c = search needs
 
--- src/lib.rt:99:37
 no-form-requires : tie.Need-no-form-requires
 no-form-requires c κs = search needs
 
--- src/lib.rt:100:29
 enum-known-n : tie.Need-enum-known-n
 enum-known-n c = search needs
 
--- src/lib.rt:100:35
 low-requires : tie.Need-low-requires
 low-requires c κs = search needs
 
--- src/lib.rt:92:1
 same-length : tie.Need-same-length
 same-length c = search needs
 
--- src/lib.rt:92:1
 returns : tie.Need-returns
 returns c = (form-refused (c .before .before .before .before .before .before .form .ensures .0) _ (c .before .before .r .given .1) (c .refused .ensures), c .before .before .before .before .before .before .form .ensures .1)
 
--- src/lib.rt:92:1
 same-length-2 : tie.Need-same-length-2
 same-length-2 c = search needs
 
--- src/lib.rt:92:1
 returns-2 : tie.Need-returns-2
 returns-2 c = (form-none (c .before .before .before .before .before .before .form .ensures .0) _ (c .before .before .q .given .1) (c .no-form .ensures), c .before .before .before .before .before .before .form .ensures .1)
 
--- src/lib.rt:92:1
 same-length-3 : tie.Need-same-length-3
 same-length-3 c = search needs
 
--- src/lib.rt:92:1
 returns-3 : tie.Need-returns-3
 returns-3 c = (form-done (c .before .before .before .before .before .before .form .ensures .0) _ (c .before .before .n .given .1) (c .low .ensures), c .before .before .before .before .before .before .form .ensures .1)
 

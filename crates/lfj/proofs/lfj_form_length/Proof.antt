@@ -9,43 +9,33 @@ use Rattle.lfj.proofs.low.Reads as low-reads
 use Rattle.lfj.proofs.no_form.Reads as no-form-reads
 use Rattle.lfj.proofs.refused.Reads as refused-reads
 
--- src/lib.rt:109:11
 form-length-requires : tie.Need-form-length-requires
 form-length-requires c κs = search needs
 
--- src/lib.rt:110:27
 enum-known-r : tie.Need-enum-known-r
 enum-known-r c = search needs
 
--- src/lib.rt:110:33
 refused-requires : tie.Need-refused-requires
 refused-requires c κs = search needs
 
--- src/lib.rt:111:26
 enum-known-q : tie.Need-enum-known-q
 enum-known-q c = search needs
 
--- src/lib.rt:111:32
 no-form-requires : tie.Need-no-form-requires
 no-form-requires c κs = search needs
 
--- src/lib.rt:112:26
 enum-known-n : tie.Need-enum-known-n
 enum-known-n c = search needs
 
--- src/lib.rt:112:32
 low-requires : tie.Need-low-requires
 low-requires c κs = search needs
 
--- src/lib.rt:105:1
 returns : tie.Need-returns
 returns c = length-refused (c .before .before .before .before .form-length .ensures) _ (c .before .before .r .given .1) (c .refused .ensures)
 
--- src/lib.rt:105:1
 returns-2 : tie.Need-returns-2
 returns-2 c = length-none (c .before .before .before .before .form-length .ensures) _ (c .before .before .q .given .1) (c .no-form .ensures)
 
--- src/lib.rt:105:1
 returns-3 : tie.Need-returns-3
 returns-3 c = length-known (c .before .before .before .before .form-length .ensures) _ (c .before .before .n .given .1) (c .low .ensures)
 

@@ -8,39 +8,30 @@ use Rattle.annotator.proofs.mel.Reads as mel-reads
 use Rattle.lfj.proofs.low.Reads as low-reads
 use Rattle.lfj.proofs.refused.Reads as refused-reads
 
--- src/lib.rt:122:11
 mel-requires : tie.Need-mel-requires
 mel-requires c κs = search needs
 
--- src/lib.rt:123:31
 enum-known-r : tie.Need-enum-known-r
 enum-known-r c = search needs
 
--- src/lib.rt:123:37
 refused-requires : tie.Need-refused-requires
 refused-requires c κs = search needs
 
--- src/lib.rt:124:28
 enum-known-n : tie.Need-enum-known-n
 enum-known-n c = search needs
 
--- src/lib.rt:124:34
 low-requires : tie.Need-low-requires
 low-requires c κs = search needs
 
--- src/lib.rt:117:1
 same-length : tie.Need-same-length
 same-length c = search needs
 
--- src/lib.rt:117:1
 returns : tie.Need-returns
 returns c = (mel-refused _ (c .before .before .before .before .before .before .mel .ensures .0) (c .before .before .r .given .1) (c .refused .ensures), c .before .before .before .before .before .before .mel .ensures .1)
 
--- src/lib.rt:117:1
 same-length-2 : tie.Need-same-length-2
 same-length-2 c = search needs
 
--- src/lib.rt:117:1
 returns-2 : tie.Need-returns-2
 returns-2 c = (mel-accepted _ (c .before .before .before .before .before .before .mel .ensures .0) (c .before .before .n .given .1) (c .low .ensures), c .before .before .before .before .before .before .mel .ensures .1)
 

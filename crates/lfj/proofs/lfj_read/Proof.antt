@@ -7,27 +7,21 @@ use Rattle.lfj.proofs.lfj_read.Lts as lts
 use Rattle.annotator.proofs.read.Reads as read-reads
 use Rattle.lfj.proofs.refused.Reads as refused-reads
 
--- src/lib.rt:42:11
 read-requires : tie.Need-read-requires
 read-requires c κs = search needs
 
--- src/lib.rt:43:29
 enum-known-r : tie.Need-enum-known-r
 enum-known-r c = search needs
 
--- src/lib.rt:43:35
 refused-requires : tie.Need-refused-requires
 refused-requires c κs = search needs
 
--- src/lib.rt:44:30
 enum-known-n : tie.Need-enum-known-n
 enum-known-n c = search needs
 
--- src/lib.rt:38:1
 returns : tie.Need-returns
 returns c = read-refused _ (c .before .before .before .before .read .ensures) (c .before .before .r .given .1) (c .refused .ensures)
 
--- src/lib.rt:38:1
 returns-2 : tie.Need-returns-2
 returns-2 c = read-accepted _ (c .before .before .before .read .ensures) (c .before .n .given .1)
 

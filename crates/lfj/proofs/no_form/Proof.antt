@@ -6,39 +6,30 @@ use Rattle.lfj.proofs.no_form.Tie as tie
 use Rattle.lfj.proofs.no_form.Reads as reads
 use Rattle.lfj.proofs.no_form.Lts as lts
 
--- src/lib.rt:86:15
 mul-low : tie.Need-mul-low
 mul-low c = search needs
 
--- src/lib.rt:86:35
 mul-low-2 : tie.Need-mul-low-2
 mul-low-2 c = search needs
 
--- src/lib.rt:86:15
 add-low : tie.Need-add-low
 add-low c = search needs
 
--- src/lib.rt:87:16
 mul-high : tie.Need-mul-high
 mul-high c = search needs
 
--- src/lib.rt:87:39
 mul-high-2 : tie.Need-mul-high-2
 mul-high-2 c = search needs
 
--- src/lib.rt:87:16
 add-high : tie.Need-add-high
 add-high c = search needs
 
--- src/lib.rt:88:5
 add-result : tie.Need-add-result
 add-result c = search needs
 
--- src/lib.rt:88:5
 add-result-2 : tie.Need-add-result-2
 add-result-2 c = search needs
 
--- src/lib.rt:79:1
 returns : tie.Need-returns
 unfolding formWord refusalWord
 returns c = omega arith

@@ -7,23 +7,18 @@ use Rattle.lfj.proofs.refused.Reads as reads
 use Rattle.lfj.proofs.refused.Lts as lts
 use Rattle.lfj.proofs.low.Reads as low-reads
 
--- src/lib.rt:33:18
 cast-number : tie.Need-cast-number
 cast-number c = search needs
 
--- src/lib.rt:34:5
 mul-result : tie.Need-mul-result
 mul-result c = search needs
 
--- src/lib.rt:34:37
 low-requires : tie.Need-low-requires
 low-requires c κs = search needs
 
--- src/lib.rt:34:5
 add-result : tie.Need-add-result
 add-result c = search needs
 
--- src/lib.rt:30:1
 returns : tie.Need-returns
 unfolding refusalWord
 returns c = omega (arith, c .low .ensures)

@@ -5,27 +5,21 @@ use Rattle.lfj.proofs.verdict.Tie as tie
 use Rattle.lfj.proofs.verdict.Reads as reads
 use Rattle.lfj.proofs.verdict.Lts as lts
 
--- src/lib.rt:147:26
 enum-told : tie.Need-enum-told
 enum-told c = search needs
 
--- src/lib.rt:148:26
 enum-known-v : tie.Need-enum-known-v
 enum-known-v c = search needs
 
--- src/lib.rt:151:17
 mul-result : tie.Need-mul-result
 mul-result c = search needs
 
--- src/lib.rt:151:13
 add-result : tie.Need-add-result
 add-result c = search needs
 
--- src/lib.rt:143:1
 returns : tie.Need-returns
 returns c = same-word (c .enum-told .given .1)
 
--- src/lib.rt:143:1
 returns-2 : tie.Need-returns-2
 returns-2 c = differs-word _ (c .before .v .given .1)
 

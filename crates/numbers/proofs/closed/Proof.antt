@@ -17,35 +17,27 @@ Inv-loop text at count k₀ k = (i : ℕ) → i < k → getD text (at + i) 0 ≡
 abbrev μ-loop : tie.MeasureT-loop
 μ-loop text at count k₀ k = count - k
 
--- src/lib.rt:124:5
 loop-holds : tie.Need-loop-holds Inv-loop μ-loop
 loop-holds c = λ i h. absurd (omega arith)
 
--- src/lib.rt:125:23
 add-peek : tie.Need-add-peek Inv-loop μ-loop
 add-peek c = omega (arith, c .before .before .before .pre)
 
--- src/lib.rt:125:12
 peek-requires : tie.Need-peek-requires Inv-loop μ-loop
 peek-requires c κs = search needs
 
--- src/lib.rt:126:13
 returns : tie.Need-returns Inv-loop μ-loop
 returns c = λ e. absurd (false≢true e)
 
--- src/lib.rt:124:9
 add-k : tie.Need-add-k Inv-loop μ-loop
 add-k c = search needs
 
--- src/lib.rt:124:5
 loop-less : tie.Need-loop-less Inv-loop μ-loop
 loop-less c = search needs
 
--- src/lib.rt:124:5
 loop-again : tie.Need-loop-again Inv-loop μ-loop
 loop-again c = longer (c .before .before .before .before .before .args .text .now) (c .before .before .before .before .before .args .at) 41 _ (c .before .before .before .loop .inv) (sym (c .before .peek .ensures) ∙ c .if1 .left)
 
--- src/lib.rt:120:1
 returns-2 : tie.Need-returns-2 Inv-loop μ-loop
 returns-2 c = λ e i h. c .before .loop .inv i (omega (arith, c .loop-test .left))
 

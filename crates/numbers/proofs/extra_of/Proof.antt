@@ -7,11 +7,9 @@ use Rattle.numbers.proofs.extra_of.Tie as tie
 use Rattle.numbers.proofs.extra_of.Reads as reads
 use Rattle.numbers.proofs.extra_of.Lts as lts
 
--- src/lib.rt:61:1
 returns : tie.Need-returns
 returns c = sym (ap (λ b. cond {A = ℕ} b 0 1) (le-leb (c .before .args .v) 32 (c .if1 .taken)))
 
--- src/lib.rt:61:1
 returns-2 : tie.Need-returns-2
 returns-2 c = sym (ap (λ b. cond {A = ℕ} b 0 1) (lt-leb (c .before .args .v) 32 (c .if1 .left)))
 

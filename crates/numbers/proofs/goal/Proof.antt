@@ -6,7 +6,6 @@ use Rattle.numbers.proofs.goal.Lts as lts
 use Rattle.numbers.proofs.extra_of.Reads as extra-of-reads
 use Rattle.numbers.proofs.mask_of.Reads as mask-of-reads
 
--- src/lib.rt:72:9
 mask-of-requires : tie.Need-mask-of-requires
 mask-of-requires c κs = search needs
 
@@ -14,7 +13,6 @@ mask-of-requires c κs = search needs
 extra-of-requires : tie.Need-extra-of-requires
 extra-of-requires c κs = search needs
 
--- src/lib.rt:67:1
 returns : tie.Need-returns
 returns c = rw (c .before .mask-of .ensures, c .extra-of .ensures)
 

@@ -10,19 +10,15 @@ use Rattle.numbers.proofs.mask_of.Reads as reads
 use Rattle.numbers.proofs.mask_of.Lts as lts
 use Rattle.sets.proofs.single32.Reads as single32-reads
 
--- src/lib.rt:57:33
 sub-single32 : tie.Need-sub-single32
 sub-single32 c = search needs
 
--- src/lib.rt:57:18
 single32-requires : tie.Need-single32-requires
 single32-requires c κs = search needs
 
--- src/lib.rt:53:1
 returns : tie.Need-returns
 returns c = c .single32 .ensures ∙ sym (ap (λ b. cond {A = ℕ} b (single (c .before .before .args .v - 1)) 0) (le-leb (c .before .before .args .v) 32 (c .before .if1 .taken)))
 
--- src/lib.rt:53:1
 returns-2 : tie.Need-returns-2
 returns-2 c = sym (ap (λ b. cond {A = ℕ} b (single (c .before .args .v - 1)) 0) (lt-leb (c .before .args .v) 32 (c .if1 .left)))
 

@@ -13,87 +13,66 @@ use Rattle.numbers.proofs.number.Lts as lts
 use Rattle.numbers.proofs.goal.Reads as goal-reads
 use Rattle.numbers.proofs.peek.Reads as peek-reads
 
--- src/lib.rt:87:13
 peek-requires : tie.Need-peek-requires
 peek-requires c κs = search needs
 
--- src/lib.rt:87:13
 cast-b : tie.Need-cast-b
 cast-b c = search needs
 
--- src/lib.rt:89:9
 returns : tie.Need-returns
 returns c = num-bad (c .before .before .before .args .text .now) (c .before .before .before .args .at) (c .before .before .before .pre) (inl (omega (arith, c .before .peek .ensures, c .if1 .taken)))
 
--- src/lib.rt:92:9
 returns-2 : tie.Need-returns-2
 returns-2 c = num-bad (c .before .before .before .before .args .text .now) (c .before .before .before .before .args .at) (c .before .before .before .before .pre) (inr (omega (arith, c .before .before .peek .ensures, c .if2 .taken)))
 
--- src/lib.rt:94:24
 add-peek : tie.Need-add-peek
 add-peek c = let l = byte-inside (c .before .before .before .before .args .text .now) (c .before .before .before .before .args .at) _ (omega (arith, c .before .before .peek .ensures, c .before .if1 .left)) refl in omega arith
 
--- src/lib.rt:94:13
 peek-requires-2 : tie.Need-peek-requires-2
 peek-requires-2 c κs = search needs
 
--- src/lib.rt:94:13
 cast-d : tie.Need-cast-d
 cast-d c = search needs
 
--- src/lib.rt:96:21
 sub-goal : tie.Need-sub-goal
 sub-goal c = search needs
 
--- src/lib.rt:96:29
 add-goal : tie.Need-add-goal
 add-goal c = let l = byte-inside (c .before .before .before .before .before .before .args .text .now) (c .before .before .before .before .before .before .args .at) _ (omega (arith, c .before .before .before .before .peek .ensures, c .before .before .before .if1 .left)) refl in omega arith
 
--- src/lib.rt:96:9
 goal-requires : tie.Need-goal-requires
 goal-requires c κs = search needs
 
--- src/lib.rt:96:9
 returns-3 : tie.Need-returns-3
 returns-3 c = subst (λ z. Numbered (c .before .before .before .before .before .before .before .args .text .now) (c .before .before .before .before .before .before .before .args .at) z) (sym (c .goal .ensures)) (num-one (c .before .before .before .before .before .before .before .args .text .now) (c .before .before .before .before .before .before .before .args .at) (c .before .before .before .before .before .peek .result - 48) (omega (arith, c .before .before .before .before .if1 .left)) (omega (arith, c .before .before .before .if2 .left)) (omega (arith, c .before .before .before .before .before .peek .ensures, c .before .before .before .before .if1 .left)) (inl (omega (arith, c .before .before .peek2 .ensures, c .before .if3 .taken))))
 
--- src/lib.rt:99:21
 sub-goal-2 : tie.Need-sub-goal-2
 sub-goal-2 c = search needs
 
--- src/lib.rt:99:29
 add-goal-2 : tie.Need-add-goal-2
 add-goal-2 c = let l = byte-inside (c .before .before .before .before .before .before .before .args .text .now) (c .before .before .before .before .before .before .before .args .at) _ (omega (arith, c .before .before .before .before .before .peek .ensures, c .before .before .before .before .if1 .left)) refl in omega arith
 
--- src/lib.rt:99:9
 goal-requires-2 : tie.Need-goal-requires-2
 goal-requires-2 c κs = search needs
 
--- src/lib.rt:99:9
 returns-4 : tie.Need-returns-4
 returns-4 c = subst (λ z. Numbered (c .before .before .before .before .before .before .before .before .args .text .now) (c .before .before .before .before .before .before .before .before .args .at) z) (sym (c .goal2 .ensures)) (num-one (c .before .before .before .before .before .before .before .before .args .text .now) (c .before .before .before .before .before .before .before .before .args .at) (c .before .before .before .before .before .before .peek .result - 48) (omega (arith, c .before .before .before .before .before .if1 .left)) (omega (arith, c .before .before .before .before .if2 .left)) (omega (arith, c .before .before .before .before .before .before .peek .ensures, c .before .before .before .before .before .if1 .left)) (inr (omega (arith, c .before .before .before .peek2 .ensures, c .before .if4 .taken))))
 
--- src/lib.rt:101:16
 sub-goal-3 : tie.Need-sub-goal-3
 sub-goal-3 c = search needs
 
--- src/lib.rt:101:10
 mul-goal : tie.Need-mul-goal
 mul-goal c = search needs
 
--- src/lib.rt:101:10
 add-goal-3 : tie.Need-add-goal-3
 add-goal-3 c = search needs
 
--- src/lib.rt:101:36
 add-goal-4 : tie.Need-add-goal-4
 add-goal-4 c = let l = byte-inside (c .before .before .before .before .before .before .before .args .text .now) (c .before .before .before .before .before .before .before .args .at + 1) _ (omega (arith, c .before .before .peek2 .ensures, c .before .if3 .left)) refl in omega arith
 
--- src/lib.rt:101:5
 goal-requires-3 : tie.Need-goal-requires-3
 goal-requires-3 c κs = search needs
 
--- src/lib.rt:83:1
 returns-5 : tie.Need-returns-5
 returns-5 c = subst (λ z. Numbered (c .before .before .before .before .before .before .before .before .args .text .now) (c .before .before .before .before .before .before .before .before .args .at) z) (sym (c .goal3 .ensures)) (num-two (c .before .before .before .before .before .before .before .before .args .text .now) (c .before .before .before .before .before .before .before .before .args .at) (c .before .before .before .before .before .before .peek .result - 48) (c .before .before .before .peek2 .result - 48) (omega (arith, c .before .before .before .before .before .if1 .left)) (omega (arith, c .before .before .before .before .if2 .left)) (omega (arith, c .before .if4 .left)) (omega (arith, c .before .before .before .before .before .before .peek .ensures, c .before .before .before .before .before .if1 .left)) (omega (arith, c .before .before .before .peek2 .ensures, c .before .before .if3 .left)))
 

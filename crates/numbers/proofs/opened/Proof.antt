@@ -18,39 +18,30 @@ Inv-loop text at depth k₀ k = Opened text at depth k
 abbrev μ-loop : tie.MeasureT-loop
 μ-loop text at depth k₀ k = length text - (at + k)
 
--- src/lib.rt:110:5
 loop-holds : tie.Need-loop-holds Inv-loop μ-loop
 loop-holds c = opened-start (c .before .args .text .now) _ _ (c .before .pre .0) (c .before .pre .1)
 
--- src/lib.rt:110:11
 add-loop : tie.Need-add-loop Inv-loop μ-loop
 add-loop c = omega (arith, c .loop .inv .0)
 
--- src/lib.rt:111:23
 add-peek : tie.Need-add-peek Inv-loop μ-loop
 add-peek c = omega (arith, c .before .loop .inv .1)
 
--- src/lib.rt:111:12
 peek-requires : tie.Need-peek-requires Inv-loop μ-loop
 peek-requires c κs = search needs
 
--- src/lib.rt:112:13
 returns : tie.Need-returns Inv-loop μ-loop
 returns c = c .before .before .before .loop .inv
 
--- src/lib.rt:114:13
 add-k : tie.Need-add-k Inv-loop μ-loop
 add-k c = omega (arith, c .before .before .before .loop .inv .0)
 
--- src/lib.rt:110:5
 loop-less : tie.Need-loop-less Inv-loop μ-loop
 loop-less c = let l = byte-inside (c .before .before .before .before .before .args .text .now) (c .before .before .before .before .before .args .at + c .before .before .before .loop .k) 40 (omega arith) (sym (c .before .peek .ensures) ∙ c .if1 .left) in omega arith
 
--- src/lib.rt:110:5
 loop-again : tie.Need-loop-again Inv-loop μ-loop
 loop-again c = opened-more (c .before .before .before .before .before .args .text .now) (c .before .before .before .before .before .args .at) (c .before .before .before .before .before .args .depth) (c .before .before .before .loop .k) (omega (arith, c .before .before .loop-test .taken)) (sym (c .before .peek .ensures) ∙ c .if1 .left) (c .before .before .before .loop .inv)
 
--- src/lib.rt:105:1
 returns-2 : tie.Need-returns-2 Inv-loop μ-loop
 returns-2 c = c .before .loop .inv
 

@@ -6,15 +6,12 @@ use Rattle.numbers.proofs.peek.Tie as tie
 use Rattle.numbers.proofs.peek.Reads as reads
 use Rattle.numbers.proofs.peek.Lts as lts
 
--- src/lib.rt:42:26
 shared-slice-read-result : tie.Need-shared-slice-read-result
 shared-slice-read-result c = search needs
 
--- src/lib.rt:39:1
 returns : tie.Need-returns
 returns c = search needs
 
--- src/lib.rt:39:1
 returns-2 : tie.Need-returns-2
 returns-2 c = sym (List·getD-eq-default (c .before .args .text .now) 0 (c .if1 .left))
 

@@ -13,75 +13,57 @@ use Rattle.numbers.proofs.number.Reads as number-reads
 use Rattle.numbers.proofs.opened.Reads as opened-reads
 use Rattle.numbers.proofs.peek.Reads as peek-reads
 
--- src/lib.rt:137:19
 add-peek : tie.Need-add-peek
 add-peek c = search needs
 
--- src/lib.rt:137:8
 peek-requires : tie.Need-peek-requires
 peek-requires c κs = search needs
 
--- src/lib.rt:138:9
 returns : tie.Need-returns
 returns c = search needs
 
--- src/lib.rt:141:23
 sub-peek : tie.Need-sub-peek
 sub-peek c = search needs
 
--- src/lib.rt:141:12
 peek-requires-2 : tie.Need-peek-requires-2
 peek-requires-2 c κs = search needs
 
--- src/lib.rt:142:13
 returns-2 : tie.Need-returns-2
 returns-2 c = search needs
 
--- src/lib.rt:145:9
 opened-requires : tie.Need-opened-requires
 opened-requires c κs = search needs
 
--- src/lib.rt:146:17
 add-inner : tie.Need-add-inner
 add-inner c = search needs
 
--- src/lib.rt:147:8
 peek-requires-3 : tie.Need-peek-requires-3
 peek-requires-3 c κs = search needs
 
--- src/lib.rt:148:9
 returns-3 : tie.Need-returns-3
 returns-3 c = search needs
 
--- src/lib.rt:150:9
 number-requires : tie.Need-number-requires
 number-requires c κs = search needs
 
--- src/lib.rt:152:25
 enum-told : tie.Need-enum-told
 enum-told c = search needs
 
--- src/lib.rt:153:20
 enum-known-part : tie.Need-enum-known-part
 enum-known-part c = search needs
 
--- src/lib.rt:155:16
 closed-requires : tie.Need-closed-requires
 closed-requires c κs = (wraps-end (c .before .before .before .before .before .before .before .before .before .before .before .args .text .now) (c .before .before .before .before .before .before .before .before .before .before .before .args .at) (c .before .before .before .before .before .before .before .before .before .before .before .args .depth) _ (c .before .before .before .before .before .before .opened .ensures) _ (c .before .before .before .number .ensures) _ (c .before .part .given .1) _ words-zero, omega (arith, c .before .before .before .before .before .before .opened .ensures .0))
 
--- src/lib.rt:163:26
 add-t21 : tie.Need-add-t21
 add-t21 c = let l = wraps-end (c .before .before .before .before .before .before .before .before .before .before .before .before .before .args .text .now) (c .before .before .before .before .before .before .before .before .before .before .before .before .before .args .at) (c .before .before .before .before .before .before .before .before .before .before .before .before .before .args .depth) _ (c .before .before .before .before .before .before .before .before .opened .ensures) _ (c .before .before .before .before .before .number .ensures) _ (c .before .before .before .part .given .1) _ words-zero in omega (arith, c .before .before .before .before .before .before .before .before .opened .ensures .0)
 
--- src/lib.rt:133:1
 returns-4 : tie.Need-returns-4
 returns-4 c = search needs
 
--- src/lib.rt:133:1
 returns-5 : tie.Need-returns-5
 returns-5 c = wraps (c .before .before .before .before .before .before .before .before .before .before .before .before .before .args .text .now) (c .before .before .before .before .before .before .before .before .before .before .before .before .before .args .at) (c .before .before .before .before .before .before .before .before .before .before .before .before .before .args .depth) _ (c .before .before .before .before .before .before .before .before .opened .ensures) _ (c .before .before .before .before .before .number .ensures) _ (c .before .before .before .part .given .1) (subst (λ b. Closed (c .before .before .before .before .before .before .before .before .before .before .before .before .before .args .text .now) (c .before .before .before .part .given .0 .0 .end) (c .before .before .before .before .before .before .before .before .opened .result) b) (c .if5 .taken) (c .before .closed .ensures))
 
--- src/lib.rt:133:1
 returns-6 : tie.Need-returns-6
 returns-6 c = search needs
 

@@ -5,27 +5,21 @@ use borrow.Author.Needs.{needs}
 use Rattle.page.proofs.put_count.Statement.{statement}
 use Rattle.page.proofs.put_count.Tie as tie
 
--- src/lib.rt:48:42
 slice-aggregate-put-bytes : tie.Need-slice-aggregate-put-bytes
 slice-aggregate-put-bytes c = search needs
 
--- src/lib.rt:48:9
 put-bytes-requires : tie.Need-put-bytes-requires
 put-bytes-requires c κs = search needs
 
--- src/lib.rt:49:5
 put-numeral-requires : tie.Need-put-numeral-requires
 put-numeral-requires c κs = omega (arith, count-length (c .before .before .before .before .before .before .before .args .n))
 
--- src/lib.rt:50:5
 put-byte-requires : tie.Need-put-byte-requires
 put-byte-requires c κs = omega (arith, count-length (c .before .before .before .before .before .before .before .before .before .before .before .args .n))
 
--- src/lib.rt:44:1
 same-length : tie.Need-same-length
 same-length c = search needs
 
--- src/lib.rt:44:1
 returns : tie.Need-returns
 returns c =
     let e = c .before .before in

@@ -6,27 +6,21 @@ use borrow.Author.Needs.{needs}
 use Rattle.page.proofs.put_goal.Statement.{statement}
 use Rattle.page.proofs.put_goal.Tie as tie
 
--- src/lib.rt:58:9
 put-numeral-requires : tie.Need-put-numeral-requires
 put-numeral-requires c κs = omega (arith, goal-length (c .before .before .before .args .g) (now (c .before .before .before .args .shown)))
 
--- src/lib.rt:59:5
 put-byte-requires : tie.Need-put-byte-requires
 put-byte-requires c κs = omega (arith, goal-length (c .before .before .before .before .before .before .before .args .g) (now (c .before .before .before .before .before .before .before .args .shown)))
 
--- src/lib.rt:60:5
 put-bytes-requires : tie.Need-put-bytes-requires
 put-bytes-requires c κs = omega (arith, goal-length (c .before .before .before .before .before .before .before .before .before .before .before .args .g) (now (c .before .before .before .before .before .before .before .before .before .before .before .args .shown)))
 
--- src/lib.rt:61:5
 put-byte-requires-2 : tie.Need-put-byte-requires-2
 put-byte-requires-2 c κs = omega (arith, goal-length (c .before .before .before .before .before .before .before .before .before .before .before .before .before .before .before .args .g) (now (c .before .before .before .before .before .before .before .before .before .before .before .before .before .before .before .args .shown)))
 
--- src/lib.rt:54:1
 same-length : tie.Need-same-length
 same-length c = search needs
 
--- src/lib.rt:54:1
 returns : tie.Need-returns
 returns c =
     let e = c .before .before in

@@ -31,35 +31,27 @@ inside : (c : tie.In-loop Inv-loop μ-loop) → let b = now (c .before .before .
     let p = c .before .loop .place in (p + 9 + byte b (p + 8) ≤ length b) × (p ≤ 2048)
 inside c = goal-inside _ (c .before .before .before .before .before .before .pre .0) (c .before .loop .g) _ (c .before .loop .inv .1) (next-goal c)
 
--- src/lib.rt:70:29
 byte-requires : tie.Need-byte-requires Inv-loop μ-loop
 byte-requires c κs = search needs
 
--- src/lib.rt:70:9
 size-of-requires : tie.Need-size-of-requires Inv-loop μ-loop
 size-of-requires c κs = search needs
 
--- src/lib.rt:74:5
 loop-holds : tie.Need-loop-holds Inv-loop μ-loop
 loop-holds c = (goals-none _ _ _, place-first _, omega arith)
 
--- src/lib.rt:75:21
 add-start : tie.Need-add-start Inv-loop μ-loop
 add-start c = omega (arith, inside c .1)
 
--- src/lib.rt:76:63
 add-byte : tie.Need-add-byte Inv-loop μ-loop
 add-byte c = omega (arith, inside c .1)
 
--- src/lib.rt:76:43
 byte-requires-2 : tie.Need-byte-requires-2 Inv-loop μ-loop
 byte-requires-2 c κs = search needs
 
--- src/lib.rt:76:27
 size-of-requires-2 : tie.Need-size-of-requires-2 Inv-loop μ-loop
 size-of-requires-2 c κs = search needs
 
--- src/lib.rt:76:19
 add-end : tie.Need-add-end Inv-loop μ-loop
 add-end c = omega (arith, inside (c .before .before) .1, c .size-of2 .ensures .1)
 
@@ -68,23 +60,18 @@ size : (c : tie.After-size-of2 Inv-loop μ-loop) →
     c .size-of2 .result ≡ byte (now (c .before .before .before .before .before .before .before .before .args .bytes)) (c .before .before .before .loop .place + 8)
 size c = c .size-of2 .ensures .0 ∙ c .before .byte2 .ensures
 
--- src/lib.rt:77:30
 add-put-goal : tie.Need-add-put-goal Inv-loop μ-loop
 add-put-goal c = omega (arith, next-goal (c .before .before .before), (c .before .before .before .before .before .before .before .before .before .pre .0) .goals-to)
 
--- src/lib.rt:77:37
 sub-put-goal : tie.Need-sub-put-goal Inv-loop μ-loop
 sub-put-goal c = omega arith
 
--- src/lib.rt:77:37
 part-put-goal-start : tie.Need-part-put-goal-start Inv-loop μ-loop
 part-put-goal-start c = omega arith
 
--- src/lib.rt:77:37
 part-put-goal-end : tie.Need-part-put-goal-end Inv-loop μ-loop
 part-put-goal-end c = omega (arith, inside (c .before .before .before) .0, size (c .before))
 
--- src/lib.rt:77:9
 put-goal-requires : tie.Need-put-goal-requires Inv-loop μ-loop
 put-goal-requires c κs =
     let l = c .before .before .before .before .before in
@@ -98,15 +85,12 @@ put-goal-requires c κs =
       (start .pre .0) .goals-to,
     )
 
--- src/lib.rt:79:9
 add-g : tie.Need-add-g Inv-loop μ-loop
 add-g c = omega arith
 
--- src/lib.rt:74:5
 loop-less : tie.Need-loop-less Inv-loop μ-loop
 loop-less c = omega arith
 
--- src/lib.rt:74:5
 loop-again : tie.Need-loop-again Inv-loop μ-loop
 loop-again c =
     let s = c .before .before .before .before .before in
@@ -117,13 +101,11 @@ loop-again c =
       omega arith,
     )
 
--- src/lib.rt:65:1
 returns : tie.Need-returns Inv-loop μ-loop
 returns c =
     let e : c .before .loop .g ≡ goalCount (now (c .before .before .before .before .before .before .args .bytes)) = omega (arith, count (c .before .before), c .loop-test .left) in
     recast (ap (goalLines (goalText _)) e) (c .before .loop .inv .0)
 
--- src/lib.rt:65:1
 same-length : tie.Need-same-length Inv-loop μ-loop
 same-length c = kept (c .before .loop .inv .0)
 

@@ -6,35 +6,27 @@ use borrow.Author.Needs.{needs}
 use Rattle.page.proofs.put_none.Statement.{statement}
 use Rattle.page.proofs.put_none.Tie as tie
 
--- src/lib.rt:89:42
 slice-aggregate-put-bytes : tie.Need-slice-aggregate-put-bytes
 slice-aggregate-put-bytes c = search needs
 
--- src/lib.rt:89:9
 put-bytes-requires : tie.Need-put-bytes-requires
 put-bytes-requires c κs = search needs
 
--- src/lib.rt:90:5
 put-spaced-requires : tie.Need-put-spaced-requires
 put-spaced-requires c κs = omega (arith, none-length (four (c .before .before .before .before .before .before .before .args .q)))
 
--- src/lib.rt:91:5
 put-spaced-requires-2 : tie.Need-put-spaced-requires-2
 put-spaced-requires-2 c κs = omega (arith, none-length (four (c .before .before .before .before .before .before .before .before .before .before .before .args .q)))
 
--- src/lib.rt:92:5
 put-spaced-requires-3 : tie.Need-put-spaced-requires-3
 put-spaced-requires-3 c κs = omega (arith, none-length (four (c .before .before .before .before .before .before .before .before .before .before .before .before .before .before .before .args .q)))
 
--- src/lib.rt:93:5
 put-spaced-requires-4 : tie.Need-put-spaced-requires-4
 put-spaced-requires-4 c κs = omega (arith, none-length (four (c .before .before .before .before .before .before .before .before .before .before .before .before .before .before .before .before .before .before .before .args .q)))
 
--- src/lib.rt:85:1
 same-length : tie.Need-same-length
 same-length c = search needs
 
--- src/lib.rt:85:1
 returns : tie.Need-returns
 returns c =
     let e = c .before .before in

@@ -5,27 +5,21 @@ use borrow.Author.Needs.{needs}
 use Rattle.page.proofs.put_refused.Statement.{statement}
 use Rattle.page.proofs.put_refused.Tie as tie
 
--- src/lib.rt:38:42
 slice-aggregate-put-bytes : tie.Need-slice-aggregate-put-bytes
 slice-aggregate-put-bytes c = search needs
 
--- src/lib.rt:38:9
 put-bytes-requires : tie.Need-put-bytes-requires
 put-bytes-requires c κs = search needs
 
--- src/lib.rt:39:5
 put-numeral-requires : tie.Need-put-numeral-requires
 put-numeral-requires c κs = omega (arith, refused-length (c .before .before .before .before .before .before .before .args .number) (c .before .before .before .before .before .before .before .args .place))
 
--- src/lib.rt:40:5
 put-spaced-requires : tie.Need-put-spaced-requires
 put-spaced-requires c κs = omega (arith, refused-length (c .before .before .before .before .before .before .before .before .before .before .before .args .number) (c .before .before .before .before .before .before .before .before .before .before .before .args .place))
 
--- src/lib.rt:34:1
 same-length : tie.Need-same-length
 same-length c = search needs
 
--- src/lib.rt:34:1
 returns : tie.Need-returns
 returns c =
     let e = c .before .before in

@@ -3,19 +3,15 @@ use borrow.Author.Needs.{needs}
 use Rattle.page.proofs.put_spaced.Statement.{statement}
 use Rattle.page.proofs.put_spaced.Tie as tie
 
--- src/lib.rt:29:9
 put-byte-requires : tie.Need-put-byte-requires
 put-byte-requires c κs = search needs
 
--- src/lib.rt:30:5
 put-numeral-requires : tie.Need-put-numeral-requires
 put-numeral-requires c κs = search needs
 
--- src/lib.rt:25:1
 same-length : tie.Need-same-length
 same-length c = search needs
 
--- src/lib.rt:25:1
 returns : tie.Need-returns
 returns c = then (c .before .before .before .before .before .before .put-byte .ensures) (c .before .before .put-numeral .ensures)
 

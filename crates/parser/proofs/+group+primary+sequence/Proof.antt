@@ -64,7 +64,6 @@ group-Inv-loop text start depth rows₀ at₀ set₀ extra₀ rows at set extra 
 abbrev group-μ-loop : group-lts.MeasureT-loop
 group-μ-loop text start depth rows₀ at₀ set₀ extra₀ rows at set extra = length text - at
 
--- src/lib.rt:58:5
 group-loop-holds : (t : ℕ) → group-lts.Need-loop-holds (
   primary-below t,
   primary.Post,
@@ -73,7 +72,6 @@ group-loop-holds : (t : ℕ) → group-lts.Need-loop-holds (
 ) (group-at t) group.Post group-Inv-loop group-μ-loop
 group-loop-holds t c = loop-start false _ _ _ _ (c .before .pre .1)
 
--- src/lib.rt:59:13
 group-primary-requires : (t : ℕ) → group-lts.Need-primary-requires (
   primary-below t,
   primary.Post,
@@ -82,7 +80,6 @@ group-primary-requires : (t : ℕ) → group-lts.Need-primary-requires (
 ) (group-at t) group.Post group-Inv-loop group-μ-loop
 group-primary-requires t c κs = (omega (arith, c .before .before .before .pre .0, c .before .loop .inv .from), c .before .loop .inv .words)
 
--- src/lib.rt:61:23
 group-enum-known-part : (t : ℕ) → group-lts.Need-enum-known-part (
   primary-below t,
   primary.Post,
@@ -91,7 +88,6 @@ group-enum-known-part : (t : ℕ) → group-lts.Need-enum-known-part (
 ) (group-at t) group.Post group-Inv-loop group-μ-loop
 group-enum-known-part t c = search needs
 
--- src/lib.rt:62:17
 group-returns : (t : ℕ) → group-lts.Need-returns (
   primary-below t,
   primary.Post,
@@ -100,7 +96,6 @@ group-returns : (t : ℕ) → group-lts.Need-returns (
 ) (group-at t) group.Post group-Inv-loop group-μ-loop
 group-returns t c = loop-bad false (c .before .before .before .before .before .before .before .args .text .now) _ _ _ _ _ _ _ (c .before .before .before .before .before .loop .inv) _ _ (c .before .before .before .primary .ensures) _ (c .before .part .given .1) (c .before .before .before .before .before .loop .rows)
 
--- src/lib.rt:64:24
 group-enum-known-part-2 : (t : ℕ) → group-lts.Need-enum-known-part-2 (
   primary-below t,
   primary.Post,
@@ -109,7 +104,6 @@ group-enum-known-part-2 : (t : ℕ) → group-lts.Need-enum-known-part-2 (
 ) (group-at t) group.Post group-Inv-loop group-μ-loop
 group-enum-known-part-2 t c = search needs
 
--- src/lib.rt:69:20
 group-peek-requires : (t : ℕ) → group-lts.Need-peek-requires (
   primary-below t,
   primary.Post,
@@ -118,7 +112,6 @@ group-peek-requires : (t : ℕ) → group-lts.Need-peek-requires (
 ) (group-at t) group.Post group-Inv-loop group-μ-loop
 group-peek-requires t c κs = search needs
 
--- src/lib.rt:70:26
 group-add-at : (t : ℕ) → group-lts.Need-add-at (
   primary-below t,
   primary.Post,
@@ -127,7 +120,6 @@ group-add-at : (t : ℕ) → group-lts.Need-add-at (
 ) (group-at t) group.Post group-Inv-loop group-μ-loop
 group-add-at t c = let h = loop-moved false (c .before .before .before .before .before .before .before .before .before .before .args .text .now) _ _ _ _ _ _ _ (c .before .before .before .before .before .before .before .before .loop .inv) _ _ (c .before .before .before .before .before .before .primary .ensures) _ (c .before .before .before .before .part2 .given .1) in let l = byte-inside (c .before .before .before .before .before .before .before .before .before .before .args .text .now) (c .before .before .before .before .part2 .given .0 .0 .end) 38 (omega arith) (sym (c .before .peek .ensures) ∙ c .if1 .taken) in omega arith
 
--- src/lib.rt:58:5
 group-loop-less : (t : ℕ) → group-lts.Need-loop-less (
   primary-below t,
   primary.Post,
@@ -136,7 +128,6 @@ group-loop-less : (t : ℕ) → group-lts.Need-loop-less (
 ) (group-at t) group.Post group-Inv-loop group-μ-loop
 group-loop-less t c = let h = loop-moved false (c .before .before .before .before .before .before .before .before .before .before .args .text .now) _ _ _ _ _ _ _ (c .before .before .before .before .before .before .before .before .loop .inv) _ _ (c .before .before .before .before .before .before .primary .ensures) _ (c .before .before .before .before .part2 .given .1) in let l = byte-inside (c .before .before .before .before .before .before .before .before .before .before .args .text .now) (c .before .before .before .before .part2 .given .0 .0 .end) 38 (omega arith) (sym (c .before .peek .ensures) ∙ c .if1 .taken) in omega arith
 
--- src/lib.rt:58:5
 group-loop-again : (t : ℕ) → group-lts.Need-loop-again (
   primary-below t,
   primary.Post,
@@ -145,7 +136,6 @@ group-loop-again : (t : ℕ) → group-lts.Need-loop-again (
 ) (group-at t) group.Post group-Inv-loop group-μ-loop
 group-loop-again t c = loop-more false (c .before .before .before .before .before .before .before .before .before .before .args .text .now) _ _ _ _ _ _ _ (c .before .before .before .before .before .before .before .before .loop .inv) _ _ (c .before .before .before .before .before .before .primary .ensures) _ (c .before .before .before .before .part2 .given .1) _ (links-group (c .before .before .before .before .before .before .before .before .loop .set) (c .before .before .before .before .part2 .given .0 .0 .set) _ (loop-words false (c .before .before .before .before .before .before .before .before .before .before .args .text .now) _ _ _ _ _ _ _ (c .before .before .before .before .before .before .before .before .loop .inv) _ _ (c .before .before .before .before .before .before .primary .ensures) _ (c .before .before .before .before .part2 .given .1))) (sym (c .before .peek .ensures) ∙ c .if1 .taken)
 
--- src/lib.rt:72:21
 group-returns-2 : (t : ℕ) → group-lts.Need-returns-2 (
   primary-below t,
   primary.Post,
@@ -154,7 +144,6 @@ group-returns-2 : (t : ℕ) → group-lts.Need-returns-2 (
 ) (group-at t) group.Post group-Inv-loop group-μ-loop
 group-returns-2 t c = loop-one false (c .before .before .before .before .before .before .before .before .before .before .before .args .text .now) _ _ _ _ _ _ _ (c .before .before .before .before .before .before .before .before .before .loop .inv) _ _ (c .before .before .before .before .before .before .before .primary .ensures) _ (c .before .before .before .before .before .part2 .given .1) _ (c .if2 .taken) (links-group (c .before .before .before .before .before .before .before .before .before .loop .set) (c .before .before .before .before .before .part2 .given .0 .0 .set) _ (loop-words false (c .before .before .before .before .before .before .before .before .before .before .before .args .text .now) _ _ _ _ _ _ _ (c .before .before .before .before .before .before .before .before .before .loop .inv) _ _ (c .before .before .before .before .before .before .before .primary .ensures) _ (c .before .before .before .before .before .part2 .given .1))) (λ e. c .before .if1 .left (c .before .before .peek .ensures ∙ e))
 
--- src/lib.rt:75:21
 group-returns-3 : (t : ℕ) → group-lts.Need-returns-3 (
   primary-below t,
   primary.Post,
@@ -163,7 +152,6 @@ group-returns-3 : (t : ℕ) → group-lts.Need-returns-3 (
 ) (group-at t) group.Post group-Inv-loop group-μ-loop
 group-returns-3 t c = loop-end false (c .before .before .before .before .before .before .before .before .before .before .before .args .text .now) _ _ _ _ _ _ _ (c .before .before .before .before .before .before .before .before .before .loop .inv) _ _ (c .before .before .before .before .before .before .before .primary .ensures) _ (c .before .before .before .before .before .part2 .given .1) _ (c .if2 .left) (links-group (c .before .before .before .before .before .before .before .before .before .loop .set) (c .before .before .before .before .before .part2 .given .0 .0 .set) _ (loop-words false (c .before .before .before .before .before .before .before .before .before .before .before .args .text .now) _ _ _ _ _ _ _ (c .before .before .before .before .before .before .before .before .before .loop .inv) _ _ (c .before .before .before .before .before .before .before .primary .ensures) _ (c .before .before .before .before .before .part2 .given .1))) (λ e. c .before .if1 .left (c .before .before .peek .ensures ∙ e))
 
--- src/lib.rt:92:8
 primary-peek-requires : (t : ℕ) → primary-lts.Need-peek-requires (
   peek-reads.Asked,
   peek-reads.Learnt,
@@ -178,7 +166,6 @@ primary-peek-requires : (t : ℕ) → primary-lts.Need-peek-requires (
 ) (primary-at t) primary.Post
 primary-peek-requires t c κs = search needs
 
--- src/lib.rt:93:12
 primary-full-requires : (t : ℕ) → primary-lts.Need-full-requires (
   peek-reads.Asked,
   peek-reads.Learnt,
@@ -193,7 +180,6 @@ primary-full-requires : (t : ℕ) → primary-lts.Need-full-requires (
 ) (primary-at t) primary.Post
 primary-full-requires t c κs = search needs
 
--- src/lib.rt:94:13
 primary-returns : (t : ℕ) → primary-lts.Need-returns (
   peek-reads.Asked,
   peek-reads.Learnt,
@@ -208,7 +194,6 @@ primary-returns : (t : ℕ) → primary-lts.Need-returns (
 ) (primary-at t) primary.Post
 primary-returns t c = pri-deep (c .before .before .before .before .before .args .text .now) (c .before .before .before .before .before .args .at) (c .before .before .before .before .before .args .depth) (c .before .before .before .before .before .args .rows .now) (sym (c .before .before .before .peek .ensures) ∙ c .before .before .if1 .taken) (c .before .before .before .before .before .args .rows .now) (leb-true 32 _ (sym (c .before .full .ensures) ∙ c .if2 .taken))
 
--- src/lib.rt:96:13
 primary-spare-requires : (t : ℕ) → primary-lts.Need-spare-requires (
   peek-reads.Asked,
   peek-reads.Learnt,
@@ -223,7 +208,6 @@ primary-spare-requires : (t : ℕ) → primary-lts.Need-spare-requires (
 ) (primary-at t) primary.Post
 primary-spare-requires t c κs = let l = byte-inside (c .before .before .before .before .before .args .text .now) (c .before .before .before .before .before .args .at) 40 (omega arith) (sym (c .before .before .before .peek .ensures) ∙ c .before .before .if1 .taken) in (omega arith, omega (arith, leb-false 32 (c .before .before .before .before .before .args .depth) (sym (c .before .full .ensures) ∙ c .if2 .left)))
 
--- src/lib.rt:98:29
 primary-enum-known-bare : (t : ℕ) → primary-lts.Need-enum-known-bare (
   peek-reads.Asked,
   peek-reads.Learnt,
@@ -238,7 +222,6 @@ primary-enum-known-bare : (t : ℕ) → primary-lts.Need-enum-known-bare (
 ) (primary-at t) primary.Post
 primary-enum-known-bare t c = search needs
 
--- src/lib.rt:99:17
 primary-returns-2 : (t : ℕ) → primary-lts.Need-returns-2 (
   peek-reads.Asked,
   peek-reads.Learnt,
@@ -267,7 +250,6 @@ primary-enum-told : (t : ℕ) → primary-lts.Need-enum-told (
 ) (primary-at t) primary.Post
 primary-enum-told t c = search needs
 
--- src/lib.rt:103:35
 primary-add-sequence : (t : ℕ) → primary-lts.Need-add-sequence (
   peek-reads.Asked,
   peek-reads.Learnt,
@@ -282,7 +264,6 @@ primary-add-sequence : (t : ℕ) → primary-lts.Need-add-sequence (
 ) (primary-at t) primary.Post
 primary-add-sequence t c = let l = byte-inside (c .before .before .before .before .before .before .before .before .args .text .now) (c .before .before .before .before .before .before .before .before .args .at) 40 (omega arith) (sym (c .before .before .before .before .before .before .peek .ensures) ∙ c .before .before .before .before .before .if1 .taken) in omega arith
 
--- src/lib.rt:103:43
 primary-add-sequence-2 : (t : ℕ) → primary-lts.Need-add-sequence-2 (
   peek-reads.Asked,
   peek-reads.Learnt,
@@ -297,7 +278,6 @@ primary-add-sequence-2 : (t : ℕ) → primary-lts.Need-add-sequence-2 (
 ) (primary-at t) primary.Post
 primary-add-sequence-2 t c = omega (arith, leb-false 32 (c .before .before .before .before .before .before .before .before .args .depth) (sym (c .before .before .before .before .full .ensures) ∙ c .before .before .before .if2 .left))
 
--- src/lib.rt:103:13
 primary-sequence-requires : (t : ℕ) → primary-lts.Need-sequence-requires (
   peek-reads.Asked,
   peek-reads.Learnt,
@@ -312,7 +292,6 @@ primary-sequence-requires : (t : ℕ) → primary-lts.Need-sequence-requires (
 ) (primary-at t) primary.Post
 primary-sequence-requires t c κs = let l = byte-inside (c .before .before .before .before .before .before .before .before .before .args .text .now) (c .before .before .before .before .before .before .before .before .before .args .at) 40 (omega arith) (sym (c .before .before .before .before .before .before .before .peek .ensures) ∙ c .before .before .before .before .before .before .if1 .taken) in (omega arith, c .before .before .before .before .before .before .before .before .before .pre .1)
 
--- src/lib.rt:105:23
 primary-enum-known-part : (t : ℕ) → primary-lts.Need-enum-known-part (
   peek-reads.Asked,
   peek-reads.Learnt,
@@ -327,7 +306,6 @@ primary-enum-known-part : (t : ℕ) → primary-lts.Need-enum-known-part (
 ) (primary-at t) primary.Post
 primary-enum-known-part t c = search needs
 
--- src/lib.rt:106:24
 primary-enum-known-part-2 : (t : ℕ) → primary-lts.Need-enum-known-part-2 (
   peek-reads.Asked,
   peek-reads.Learnt,
@@ -342,7 +320,6 @@ primary-enum-known-part-2 : (t : ℕ) → primary-lts.Need-enum-known-part-2 (
 ) (primary-at t) primary.Post
 primary-enum-known-part-2 t c = search needs
 
--- src/lib.rt:108:29
 primary-add-after : (t : ℕ) → primary-lts.Need-add-after (
   peek-reads.Asked,
   peek-reads.Learnt,
@@ -357,7 +334,6 @@ primary-add-after : (t : ℕ) → primary-lts.Need-add-after (
 ) (primary-at t) primary.Post
 primary-add-after t c = let l = pri-within (c .before .before .before .before .before .before .before .before .before .before .before .before .before .args .text .now) _ _ _ (sym (c .before .before .before .before .before .before .before .before .before .before .before .peek .ensures) ∙ c .before .before .before .before .before .before .before .before .before .before .if1 .taken) (leb-false 32 _ (sym (c .before .before .before .before .before .before .before .before .before .full .ensures) ∙ c .before .before .before .before .before .before .before .before .if2 .left)) _ _ (c .before .before .before .sequence .ensures) _ (c .before .part2 .given .1) in omega arith
 
--- src/lib.rt:109:20
 primary-peek-requires-2 : (t : ℕ) → primary-lts.Need-peek-requires-2 (
   peek-reads.Asked,
   peek-reads.Learnt,
@@ -372,7 +348,6 @@ primary-peek-requires-2 : (t : ℕ) → primary-lts.Need-peek-requires-2 (
 ) (primary-at t) primary.Post
 primary-peek-requires-2 t c κs = search needs
 
--- src/lib.rt:125:9
 primary-number-requires : (t : ℕ) → primary-lts.Need-number-requires (
   peek-reads.Asked,
   peek-reads.Learnt,
@@ -387,7 +362,6 @@ primary-number-requires : (t : ℕ) → primary-lts.Need-number-requires (
 ) (primary-at t) primary.Post
 primary-number-requires t c κs = λ e. c .if1 .left (c .before .peek .ensures ∙ e)
 
--- src/lib.rt:88:1
 primary-returns-3 : (t : ℕ) → primary-lts.Need-returns-3 (
   peek-reads.Asked,
   peek-reads.Learnt,
@@ -402,7 +376,6 @@ primary-returns-3 : (t : ℕ) → primary-lts.Need-returns-3 (
 ) (primary-at t) primary.Post
 primary-returns-3 t c = pri-bad (c .before .before .before .before .before .before .before .before .before .before .before .before .before .args .text .now) _ _ _ (sym (c .before .before .before .before .before .before .before .before .before .before .before .peek .ensures) ∙ c .before .before .before .before .before .before .before .before .before .before .if1 .taken) (leb-false 32 _ (sym (c .before .before .before .before .before .before .before .before .before .full .ensures) ∙ c .before .before .before .before .before .before .before .before .if2 .left)) _ _ (c .before .before .before .sequence .ensures) _ (c .before .part .given .1)
 
--- src/lib.rt:88:1
 primary-returns-4 : (t : ℕ) → primary-lts.Need-returns-4 (
   peek-reads.Asked,
   peek-reads.Learnt,
@@ -417,7 +390,6 @@ primary-returns-4 : (t : ℕ) → primary-lts.Need-returns-4 (
 ) (primary-at t) primary.Post
 primary-returns-4 t c = pri-shut (c .before .before .before .before .before .before .before .before .before .before .before .before .before .before .before .args .text .now) _ _ _ (sym (c .before .before .before .before .before .before .before .before .before .before .before .before .before .peek .ensures) ∙ c .before .before .before .before .before .before .before .before .before .before .before .before .if1 .taken) (leb-false 32 _ (sym (c .before .before .before .before .before .before .before .before .before .before .before .full .ensures) ∙ c .before .before .before .before .before .before .before .before .before .before .if2 .left)) _ _ (c .before .before .before .before .before .sequence .ensures) _ (c .before .before .before .part2 .given .1) (sym (c .before .peek2 .ensures) ∙ c .if3 .taken)
 
--- src/lib.rt:88:1
 primary-returns-5 : (t : ℕ) → primary-lts.Need-returns-5 (
   peek-reads.Asked,
   peek-reads.Learnt,
@@ -432,7 +404,6 @@ primary-returns-5 : (t : ℕ) → primary-lts.Need-returns-5 (
 ) (primary-at t) primary.Post
 primary-returns-5 t c = pri-left (c .before .before .before .before .before .before .before .before .before .before .before .before .before .before .before .args .text .now) _ _ _ (sym (c .before .before .before .before .before .before .before .before .before .before .before .before .before .peek .ensures) ∙ c .before .before .before .before .before .before .before .before .before .before .before .before .if1 .taken) (leb-false 32 _ (sym (c .before .before .before .before .before .before .before .before .before .before .before .full .ensures) ∙ c .before .before .before .before .before .before .before .before .before .before .if2 .left)) _ _ (c .before .before .before .before .before .sequence .ensures) _ (c .before .before .before .part2 .given .1) (λ e. c .if3 .left (c .before .peek2 .ensures ∙ e))
 
--- src/lib.rt:88:1
 primary-returns-6 : (t : ℕ) → primary-lts.Need-returns-6 (
   peek-reads.Asked,
   peek-reads.Learnt,
@@ -453,7 +424,6 @@ sequence-Inv-loop text start depth rows₀ at₀ set₀ extra₀ rows at set ext
 abbrev sequence-μ-loop : sequence-lts.MeasureT-loop
 sequence-μ-loop text start depth rows₀ at₀ set₀ extra₀ rows at set extra = length text - at
 
--- src/lib.rt:20:5
 sequence-loop-holds : (t : ℕ) → sequence-lts.Need-loop-holds (
   group-below t,
   group.Post,
@@ -464,7 +434,6 @@ sequence-loop-holds : (t : ℕ) → sequence-lts.Need-loop-holds (
 ) (sequence-at t) sequence.Post sequence-Inv-loop sequence-μ-loop
 sequence-loop-holds t c = loop-start true _ _ _ _ (c .before .pre .1)
 
--- src/lib.rt:21:13
 sequence-group-requires : (t : ℕ) → sequence-lts.Need-group-requires (
   group-below t,
   group.Post,
@@ -475,7 +444,6 @@ sequence-group-requires : (t : ℕ) → sequence-lts.Need-group-requires (
 ) (sequence-at t) sequence.Post sequence-Inv-loop sequence-μ-loop
 sequence-group-requires t c κs = (omega (arith, c .before .before .before .pre .0, c .before .loop .inv .from), c .before .loop .inv .words)
 
--- src/lib.rt:23:23
 sequence-enum-known-part : (t : ℕ) → sequence-lts.Need-enum-known-part (
   group-below t,
   group.Post,
@@ -486,7 +454,6 @@ sequence-enum-known-part : (t : ℕ) → sequence-lts.Need-enum-known-part (
 ) (sequence-at t) sequence.Post sequence-Inv-loop sequence-μ-loop
 sequence-enum-known-part t c = search needs
 
--- src/lib.rt:24:17
 sequence-returns : (t : ℕ) → sequence-lts.Need-returns (
   group-below t,
   group.Post,
@@ -497,7 +464,6 @@ sequence-returns : (t : ℕ) → sequence-lts.Need-returns (
 ) (sequence-at t) sequence.Post sequence-Inv-loop sequence-μ-loop
 sequence-returns t c = loop-bad true (c .before .before .before .before .before .before .before .args .text .now) _ _ _ _ _ _ _ (c .before .before .before .before .before .loop .inv) _ _ (group-member (c .before .before .before .before .before .before .before .args .text .now) (c .before .before .before .before .before .loop .at) (c .before .before .before .before .before .before .before .args .depth) (c .before .before .before .before .before .loop .rows) (c .before .before .before .group .result) _ (c .before .before .before .group .ensures)) _ (c .before .part .given .1) (c .before .before .before .before .before .loop .rows)
 
--- src/lib.rt:26:24
 sequence-enum-known-part-2 : (t : ℕ) → sequence-lts.Need-enum-known-part-2 (
   group-below t,
   group.Post,
@@ -508,7 +474,6 @@ sequence-enum-known-part-2 : (t : ℕ) → sequence-lts.Need-enum-known-part-2 (
 ) (sequence-at t) sequence.Post sequence-Inv-loop sequence-μ-loop
 sequence-enum-known-part-2 t c = search needs
 
--- src/lib.rt:29:17
 sequence-link-requires : (t : ℕ) → sequence-lts.Need-link-requires (
   group-below t,
   group.Post,
@@ -519,7 +484,6 @@ sequence-link-requires : (t : ℕ) → sequence-lts.Need-link-requires (
 ) (sequence-at t) sequence.Post sequence-Inv-loop sequence-μ-loop
 sequence-link-requires t c κs = (loop-words true (c .before .before .before .before .before .before .before .before .args .text .now) _ _ _ _ _ _ _ (c .before .before .before .before .before .before .loop .inv) _ _ (group-member (c .before .before .before .before .before .before .before .before .args .text .now) (c .before .before .before .before .before .before .loop .at) (c .before .before .before .before .before .before .before .before .args .depth) (c .before .before .before .before .before .before .loop .rows) (c .before .before .before .before .group .result) _ (c .before .before .before .before .group .ensures)) _ (c .before .before .part2 .given .1))
 
--- src/lib.rt:32:20
 sequence-peek-requires : (t : ℕ) → sequence-lts.Need-peek-requires (
   group-below t,
   group.Post,
@@ -530,7 +494,6 @@ sequence-peek-requires : (t : ℕ) → sequence-lts.Need-peek-requires (
 ) (sequence-at t) sequence.Post sequence-Inv-loop sequence-μ-loop
 sequence-peek-requires t c κs = search needs
 
--- src/lib.rt:33:26
 sequence-add-at : (t : ℕ) → sequence-lts.Need-add-at (
   group-below t,
   group.Post,
@@ -541,7 +504,6 @@ sequence-add-at : (t : ℕ) → sequence-lts.Need-add-at (
 ) (sequence-at t) sequence.Post sequence-Inv-loop sequence-μ-loop
 sequence-add-at t c = let h = loop-moved true (c .before .before .before .before .before .before .before .before .before .before .before .before .args .text .now) _ _ _ _ _ _ _ (c .before .before .before .before .before .before .before .before .before .before .loop .inv) _ _ (group-member (c .before .before .before .before .before .before .before .before .before .before .before .before .args .text .now) (c .before .before .before .before .before .before .before .before .before .before .loop .at) (c .before .before .before .before .before .before .before .before .before .before .before .before .args .depth) (c .before .before .before .before .before .before .before .before .before .before .loop .rows) (c .before .before .before .before .before .before .before .before .group .result) _ (c .before .before .before .before .before .before .before .before .group .ensures)) _ (c .before .before .before .before .before .before .part2 .given .1) in let l = byte-inside (c .before .before .before .before .before .before .before .before .before .before .before .before .args .text .now) (c .before .before .before .before .before .before .part2 .given .0 .0 .end) 44 (omega arith) (sym (c .before .peek .ensures) ∙ c .if1 .taken) in omega arith
 
--- src/lib.rt:20:5
 sequence-loop-less : (t : ℕ) → sequence-lts.Need-loop-less (
   group-below t,
   group.Post,
@@ -552,7 +514,6 @@ sequence-loop-less : (t : ℕ) → sequence-lts.Need-loop-less (
 ) (sequence-at t) sequence.Post sequence-Inv-loop sequence-μ-loop
 sequence-loop-less t c = let h = loop-moved true (c .before .before .before .before .before .before .before .before .before .before .before .before .args .text .now) _ _ _ _ _ _ _ (c .before .before .before .before .before .before .before .before .before .before .loop .inv) _ _ (group-member (c .before .before .before .before .before .before .before .before .before .before .before .before .args .text .now) (c .before .before .before .before .before .before .before .before .before .before .loop .at) (c .before .before .before .before .before .before .before .before .before .before .before .before .args .depth) (c .before .before .before .before .before .before .before .before .before .before .loop .rows) (c .before .before .before .before .before .before .before .before .group .result) _ (c .before .before .before .before .before .before .before .before .group .ensures)) _ (c .before .before .before .before .before .before .part2 .given .1) in let l = byte-inside (c .before .before .before .before .before .before .before .before .before .before .before .before .args .text .now) (c .before .before .before .before .before .before .part2 .given .0 .0 .end) 44 (omega arith) (sym (c .before .peek .ensures) ∙ c .if1 .taken) in omega arith
 
--- src/lib.rt:20:5
 sequence-loop-again : (t : ℕ) → sequence-lts.Need-loop-again (
   group-below t,
   group.Post,
@@ -563,7 +524,6 @@ sequence-loop-again : (t : ℕ) → sequence-lts.Need-loop-again (
 ) (sequence-at t) sequence.Post sequence-Inv-loop sequence-μ-loop
 sequence-loop-again t c = loop-more true (c .before .before .before .before .before .before .before .before .before .before .before .before .args .text .now) _ _ _ _ _ _ _ (c .before .before .before .before .before .before .before .before .before .before .loop .inv) _ _ (group-member (c .before .before .before .before .before .before .before .before .before .before .before .before .args .text .now) (c .before .before .before .before .before .before .before .before .before .before .loop .at) (c .before .before .before .before .before .before .before .before .before .before .before .before .args .depth) (c .before .before .before .before .before .before .before .before .before .before .loop .rows) (c .before .before .before .before .before .before .before .before .group .result) _ (c .before .before .before .before .before .before .before .before .group .ensures)) _ (c .before .before .before .before .before .before .part2 .given .1) _ (links-sequence _ _ _ _ (c .before .before .before .link .ensures)) (sym (c .before .peek .ensures) ∙ c .if1 .taken)
 
--- src/lib.rt:35:21
 sequence-returns-2 : (t : ℕ) → sequence-lts.Need-returns-2 (
   group-below t,
   group.Post,
@@ -574,7 +534,6 @@ sequence-returns-2 : (t : ℕ) → sequence-lts.Need-returns-2 (
 ) (sequence-at t) sequence.Post sequence-Inv-loop sequence-μ-loop
 sequence-returns-2 t c = loop-one true (c .before .before .before .before .before .before .before .before .before .before .before .before .before .args .text .now) _ _ _ _ _ _ _ (c .before .before .before .before .before .before .before .before .before .before .before .loop .inv) _ _ (group-member (c .before .before .before .before .before .before .before .before .before .before .before .before .before .args .text .now) (c .before .before .before .before .before .before .before .before .before .before .before .loop .at) (c .before .before .before .before .before .before .before .before .before .before .before .before .before .args .depth) (c .before .before .before .before .before .before .before .before .before .before .before .loop .rows) (c .before .before .before .before .before .before .before .before .before .group .result) _ (c .before .before .before .before .before .before .before .before .before .group .ensures)) _ (c .before .before .before .before .before .before .before .part2 .given .1) _ (c .if2 .taken) (links-sequence _ _ _ _ (c .before .before .before .before .link .ensures)) (λ e. c .before .if1 .left (c .before .before .peek .ensures ∙ e))
 
--- src/lib.rt:38:21
 sequence-returns-3 : (t : ℕ) → sequence-lts.Need-returns-3 (
   group-below t,
   group.Post,

@@ -6,27 +6,21 @@ use Rattle.parser.proofs.parse.Reads as reads
 use Rattle.parser.proofs.parse.Lts as lts
 use Rattle.parser.proofs.sequence.Reads as sequence-reads
 
--- src/lib.rt:132:9
 sequence-requires : tie.Need-sequence-requires
 sequence-requires c κs = search needs
 
--- src/lib.rt:134:19
 enum-known-part : tie.Need-enum-known-part
 enum-known-part c = search needs
 
--- src/lib.rt:135:20
 enum-known-part-2 : tie.Need-enum-known-part-2
 enum-known-part-2 c = search needs
 
--- src/lib.rt:128:1
 returns : tie.Need-returns
 returns c = whole-bad (c .before .before .before .before .before .before .before .args .text .now) (c .before .before .before .before .before .before .before .args .rows .now) _ _ (c .before .before .before .sequence .ensures) _ (c .before .part .given .1)
 
--- src/lib.rt:128:1
 returns-2 : tie.Need-returns-2
 returns-2 c = whole-left (c .before .before .before .before .before .before .before .before .args .text .now) (c .before .before .before .before .before .before .before .before .args .rows .now) _ _ (c .before .before .before .before .sequence .ensures) _ (c .before .before .part2 .given .1) (c .if1 .taken)
 
--- src/lib.rt:128:1
 returns-3 : tie.Need-returns-3
 returns-3 c = whole-done (c .before .before .before .before .before .before .before .before .args .text .now) (c .before .before .before .before .before .before .before .before .args .rows .now) _ _ (c .before .before .before .before .sequence .ensures) _ (c .before .before .part2 .given .1) (c .if1 .left)
 

@@ -14,11 +14,9 @@ Inv-loop rows₀ front later left₀ rows left = Linking front later rows₀ row
 abbrev μ-loop : tie.MeasureT-loop
 μ-loop rows₀ front later left₀ rows left = length (members 32 left)
 
--- src/lib.rt:9:5
 loop-holds : tie.Need-loop-holds Inv-loop μ-loop
 loop-holds c = linking-start _ _ _ (c .pre) (search needs)
 
--- src/lib.rt:10:13
 first32-requires : tie.Need-first32-requires Inv-loop μ-loop
 first32-requires c κs = search needs
 
@@ -28,19 +26,15 @@ row c =
     let l = first-in 32 (c .before .before .loop .left) (c .before .before .loop .inv .rest) (c .before .loop-test .taken) in
     omega (arith, c .first32 .ensures)
 
--- src/lib.rt:11:19
 mul-rows : tie.Need-mul-rows Inv-loop μ-loop
 mul-rows c = let l = row c in search needs
 
--- src/lib.rt:11:19
 element-copy-out-rows : tie.Need-element-copy-out-rows Inv-loop μ-loop
 element-copy-out-rows c = row c
 
--- src/lib.rt:11:9
 mul-rows-2 : tie.Need-mul-rows-2 Inv-loop μ-loop
 mul-rows-2 c = let l = row (c .before) in search needs
 
--- src/lib.rt:11:9
 element-write-rows : tie.Need-element-write-rows Inv-loop μ-loop
 element-write-rows c = row (c .before)
 

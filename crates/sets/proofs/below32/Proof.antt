@@ -10,23 +10,18 @@ use Rattle.sets.proofs.below32.Tie as tie
 use Rattle.sets.proofs.below32.Reads as reads
 use Rattle.sets.proofs.below32.Lts as lts
 
--- src/lib.rt:104:18
 cast-result : tie.Need-cast-result
 cast-result c = search needs
 
--- src/lib.rt:104:10
 shl-result : tie.Need-shl-result
 shl-result c = search needs
 
--- src/lib.rt:104:9
 sub-result : tie.Need-sub-result
 sub-result c = omega (arith, shl-single 32 (c .before .args .v) (c .if1 .taken), pow-pos (c .before .args .v))
 
--- src/lib.rt:99:1
 returns : tie.Need-returns
 returns c = ap (λ (x : ℕ). x - 1) (shl-single 32 (c .before .args .v) (c .if1 .taken))
 
--- src/lib.rt:99:1
 returns-2 : tie.Need-returns-2
 returns-2 c = let e : 32 ≡ c .before .args .v = omega arith in ap below e
 

@@ -5,7 +5,6 @@ use Rattle.sets.proofs.subset32.Tie as tie
 use Rattle.sets.proofs.subset32.Reads as reads
 use Rattle.sets.proofs.subset32.Lts as lts
 
--- src/lib.rt:129:1
 returns : tie.Need-returns
 unfolding subset
 returns c = refl

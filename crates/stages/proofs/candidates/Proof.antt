@@ -3,19 +3,15 @@ use Rattle.stages.specs.Masks as M
 use Rattle.stages.proofs.candidates.Statement.{statement}
 use Rattle.stages.proofs.candidates.Tie as tie
 
--- src/lib.rt:101:33
 meet-requires : tie.Need-meet-requires
 meet-requires c κs = search needs
 
--- src/lib.rt:101:19
 without-requires : tie.Need-without-requires
 without-requires c κs = search needs
 
--- src/lib.rt:101:5
 without-requires-2 : tie.Need-without-requires-2
 without-requires-2 c κs = search needs
 
--- src/lib.rt:98:1
 returns : tie.Need-returns
 unfolding M.candidates
 returns c = rw (c .without2 .ensures, c .before .without .ensures, c .before .before .meet .ensures)

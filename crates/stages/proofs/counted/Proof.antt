@@ -13,39 +13,30 @@ Inv-loop sets p q m₀ t₀ g₀ m t g = (p ≤ g) × ((g ≤ q) × ((m ≡ M.on
 abbrev μ-loop : tie.MeasureT-loop
 μ-loop sets p q m₀ t₀ g₀ m t g = q - g
 
--- src/lib.rt:46:5
 loop-holds : tie.Need-loop-holds Inv-loop μ-loop
 loop-holds c = (omega arith, (omega arith, (once-none _ _, twice-none _ _)))
 
--- src/lib.rt:47:28
 add-goal : tie.Need-add-goal Inv-loop μ-loop
 add-goal c = omega arith
 
--- src/lib.rt:47:13
 goal-requires : tie.Need-goal-requires Inv-loop μ-loop
 goal-requires c κs = omega arith
 
--- src/lib.rt:48:28
 meet-requires : tie.Need-meet-requires Inv-loop μ-loop
 meet-requires c κs = omega arith
 
--- src/lib.rt:48:9
 union-requires : tie.Need-union-requires Inv-loop μ-loop
 union-requires c κs = omega arith
 
--- src/lib.rt:49:9
 union-requires-2 : tie.Need-union-requires-2 Inv-loop μ-loop
 union-requires-2 c κs = omega arith
 
--- src/lib.rt:50:9
 add-g : tie.Need-add-g Inv-loop μ-loop
 add-g c = omega arith
 
--- src/lib.rt:46:5
 loop-less : tie.Need-loop-less Inv-loop μ-loop
 loop-less c = omega arith
 
--- src/lib.rt:46:5
 loop-again : tie.Need-loop-again Inv-loop μ-loop
 loop-again c =
     let l = c .before .before .before .before .before .loop in
@@ -60,7 +51,6 @@ loop-again c =
       ),
     )
 
--- src/lib.rt:39:1
 returns : tie.Need-returns Inv-loop μ-loop
 returns c = let e : c .before .loop .g ≡ c .before .before .before .args .q = omega arith in (cc, cc)
 

@@ -33,47 +33,36 @@ tested c =
     in
     boundary-mask _ _ 64 _ _ _ _ _ b (l .inv .1 .0) (c .meet .ok) (rw (c .meet .ensures, c .before .without2 .ensures, c .before .before .before .without .ensures, c .before .before .before .before .goal .ensures))
 
--- src/lib.rt:46:5
 loop-holds : tie.Need-loop-holds Inv-loop μ-loop
 loop-holds c = (omega arith, (none-after _ _, start-whole _ _ _ _))
 
--- src/lib.rt:48:9
 sub-p : tie.Need-sub-p Inv-loop μ-loop
 sub-p c = omega arith
 
--- src/lib.rt:49:13
 goal-requires : tie.Need-goal-requires Inv-loop μ-loop
 goal-requires c κs = omega arith
 
--- src/lib.rt:50:35
 without-requires : tie.Need-without-requires Inv-loop μ-loop
 without-requires c κs = omega arith
 
--- src/lib.rt:50:59
 goal-requires-2 : tie.Need-goal-requires-2 Inv-loop μ-loop
 goal-requires-2 c κs = omega arith
 
--- src/lib.rt:50:13
 without-requires-2 : tie.Need-without-requires-2 Inv-loop μ-loop
 without-requires-2 c κs = omega arith
 
--- src/lib.rt:51:12
 meet-requires : tie.Need-meet-requires Inv-loop μ-loop
 meet-requires c κs = omega arith
 
--- src/lib.rt:52:13
 returns : tie.Need-returns Inv-loop μ-loop
 returns c = sym (c .before .before .before .before .before .before .before .loop .inv .1 .1 ∙ largest-boundary _ _ _ _ _ (omega arith) (sym (tested (c .before)) ∙ ap not (ne-eqb _ 0 (c .if1 .taken))))
 
--- src/lib.rt:54:9
 union-requires : tie.Need-union-requires Inv-loop μ-loop
 union-requires c κs = omega arith
 
--- src/lib.rt:46:5
 loop-less : tie.Need-loop-less Inv-loop μ-loop
 loop-less c = omega arith
 
--- src/lib.rt:46:5
 loop-again : tie.Need-loop-again Inv-loop μ-loop
 loop-again c =
     let l = c .before .before .before .before .before .before .before .before .loop in (
@@ -84,7 +73,6 @@ loop-again c =
       ),
     )
 
--- src/lib.rt:39:1
 returns-2 : tie.Need-returns-2 Inv-loop μ-loop
 returns-2 c = start-none _ _ _ _ _ (c .before .loop .inv .1 .1) (omega arith)
 

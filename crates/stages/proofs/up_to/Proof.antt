@@ -13,35 +13,27 @@ Inv-loop sets set₀ m₀ g₀ set m g = (g ≤ length sets + 1) × ((m ≡ M.on
 abbrev μ-loop : tie.MeasureT-loop
 μ-loop sets set₀ m₀ g₀ set m g = length sets + 1 - g
 
--- src/lib.rt:30:5
 loop-holds : tie.Need-loop-holds Inv-loop μ-loop
 loop-holds c = (omega arith, (once-none _ _, upto-none _))
 
--- src/lib.rt:31:9
 mul-set : tie.Need-mul-set Inv-loop μ-loop
 mul-set c = omega arith
 
--- src/lib.rt:31:9
 array-write-set : tie.Need-array-write-set Inv-loop μ-loop
 array-write-set c = omega arith
 
--- src/lib.rt:32:9
 add-g : tie.Need-add-g Inv-loop μ-loop
 add-g c = omega arith
 
--- src/lib.rt:33:28
 goal-requires : tie.Need-goal-requires Inv-loop μ-loop
 goal-requires c κs = omega arith
 
--- src/lib.rt:33:9
 union-requires : tie.Need-union-requires Inv-loop μ-loop
 union-requires c κs = omega arith
 
--- src/lib.rt:30:5
 loop-less : tie.Need-loop-less Inv-loop μ-loop
 loop-less c = omega arith
 
--- src/lib.rt:30:5
 loop-again : tie.Need-loop-again Inv-loop μ-loop
 loop-again c =
     let l = c .before .before .before .loop in (
@@ -52,7 +44,6 @@ loop-again c =
       ),
     )
 
--- src/lib.rt:24:1
 returns : tie.Need-returns Inv-loop μ-loop
 returns c = let l = c .before .loop in l .inv .1 .1 ∙ upto-all _ (l .g) (omega arith) (omega arith)
 

@@ -31,42 +31,33 @@ put-numeral-below t =
 abbrev put-numeral-K : ℕ → put-numeral-lts.Claims
 put-numeral-K t = (digit-reads.Asked, digit-reads.Learnt, put-byte-reads.Asked, put-byte-reads.Learnt, put-numeral-below t, put-numeral.Post)
 
--- src/lib.rt:72:34
 put-numeral-digit-requires : (t : ℕ) → put-numeral-lts.Need-digit-requires (put-numeral-K t) (put-numeral-at t) put-numeral.Post
 put-numeral-digit-requires t c κs = omega arith
 
--- src/lib.rt:72:9
 put-numeral-put-byte-requires : (t : ℕ) → put-numeral-lts.Need-put-byte-requires (put-numeral-K t) (put-numeral-at t) put-numeral.Post
 put-numeral-put-byte-requires t c κs = omega arith
 
--- src/lib.rt:72:9
 put-numeral-returns : (t : ℕ) → put-numeral-lts.Need-returns (put-numeral-K t) (put-numeral-at t) put-numeral.Post
 put-numeral-returns t c =
     recast (ap (λ (x : ℕ). x ∷ []) (c .before .before .before .digit .ensures) ∙ numeral-one (c .before .before .before .before .before .before .before .args .n) (search)) (c .before .before .put-byte .ensures)
 
--- src/lib.rt:72:9
 put-numeral-same-length : (t : ℕ) → put-numeral-lts.Need-same-length (put-numeral-K t) (put-numeral-at t) put-numeral.Post
 put-numeral-same-length t c = kept (put-numeral-returns t c)
 
--- src/lib.rt:74:9
 put-numeral-put-numeral-requires : (t : ℕ) → put-numeral-lts.Need-put-numeral-requires (put-numeral-K t) (put-numeral-at t) put-numeral.Post
 put-numeral-put-numeral-requires t c κs = (omega arith, omega (arith, simp length-append at (ap length (numeral-more (c .before .before .before .args .n) (omega arith)))))
 
--- src/lib.rt:75:22
 put-numeral-digit-requires-2 : (t : ℕ) → put-numeral-lts.Need-digit-requires-2 (put-numeral-K t) (put-numeral-at t) put-numeral.Post
 put-numeral-digit-requires-2 t c κs = omega arith
 
--- src/lib.rt:75:5
 put-numeral-put-byte-requires-2 : (t : ℕ) → put-numeral-lts.Need-put-byte-requires-2 (put-numeral-K t) (put-numeral-at t) put-numeral.Post
 put-numeral-put-byte-requires-2 t c κs = omega (arith, simp length-append at (ap length (numeral-more (c .before .before .before .before .before .before .before .before .args .n) (omega arith))))
 
--- src/lib.rt:67:1
 put-numeral-returns-2 : (t : ℕ) → put-numeral-lts.Need-returns-2 (put-numeral-K t) (put-numeral-at t) put-numeral.Post
 put-numeral-returns-2 t c =
     recast (ap (λ (x : ℕ). numeral (c .before .before .before .before .before .before .before .before .before .before .before .args .n / 10) ++ (x ∷ [])) (c .before .before .before .digit2 .ensures) ∙ numeral-more (c .before .before .before .before .before .before .before .before .before .before .before .args .n) (omega arith))
     (then (c .before .before .before .before .before .before .before .put-numeral .ensures) (c .before .before .put-byte2 .ensures))
 
--- src/lib.rt:67:1
 put-numeral-same-length-2 : (t : ℕ) → put-numeral-lts.Need-same-length-2 (put-numeral-K t) (put-numeral-at t) put-numeral.Post
 put-numeral-same-length-2 t c = kept (put-numeral-returns-2 t c)
 

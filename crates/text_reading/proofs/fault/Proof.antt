@@ -21,71 +21,54 @@ Inv-loop text n at₀ met₀ at met = Scanned n text at met
 abbrev μ-loop : tie.MeasureT-loop
 μ-loop text n at₀ met₀ at met = length text - at
 
--- src/lib.rt:61:5
 loop-holds : tie.Need-loop-holds Inv-loop μ-loop
 loop-holds c = scanned-start _ _
 
--- src/lib.rt:62:21
 shared-slice-read-is-digit : tie.Need-shared-slice-read-is-digit Inv-loop μ-loop
 shared-slice-read-is-digit c = search needs
 
--- src/lib.rt:62:12
 is-digit-requires : tie.Need-is-digit-requires Inv-loop μ-loop
 is-digit-requires c κs = search needs
 
--- src/lib.rt:63:17
 number-at-requires : tie.Need-number-at-requires Inv-loop μ-loop
 number-at-requires c κs = (omega arith, (sym (c .before .is-digit .ensures) ∙ c .if1 .taken))
 
--- src/lib.rt:64:20
 cast-if2 : tie.Need-cast-if2 Inv-loop μ-loop
 cast-if2 c = search needs
 
--- src/lib.rt:65:17
 returns : tie.Need-returns Inv-loop μ-loop
 returns c = sym (scanned-above (c .before .before .before .before .before .before .before .before .args .n) (c .before .before .before .before .before .before .before .before .args .text .now) (c .before .before .before .before .before .before .loop .at) (c .before .before .before .before .before .before .loop .met) (c .before .before .before .before .before .before .loop .inv) (c .before .before .before .before .before .loop-test .taken) (sym (c .before .before .before .is-digit .ensures) ∙ c .before .before .if1 .taken) (omega (arith, (c .before .number-at .ensures), c .if2 .taken)))
 
--- src/lib.rt:67:16
 has-requires : tie.Need-has-requires Inv-loop μ-loop
 has-requires c κs = omega (arith, c .before .before .before .before .before .before .before .before .pre, c .if2 .left)
 
--- src/lib.rt:68:17
 returns-2 : tie.Need-returns-2 Inv-loop μ-loop
 returns-2 c = sym (scanned-met (c .before .before .before .before .before .before .before .before .before .before .args .n) (c .before .before .before .before .before .before .before .before .before .before .args .text .now) (c .before .before .before .before .before .before .before .before .loop .at) (c .before .before .before .before .before .before .before .before .loop .met) (c .before .before .before .before .before .before .before .before .loop .inv) (c .before .before .before .before .before .before .before .loop-test .taken) (sym (c .before .before .before .before .before .is-digit .ensures) ∙ c .before .before .before .before .if1 .taken) (c .before .before .before .before .before .before .before .before .before .before .pre) (omega (arith, (c .before .before .before .number-at .ensures), c .before .before .if2 .left)) (ap (λ z. has (c .before .before .before .before .before .before .before .before .loop .met) z) (sym (c .before .before .before .number-at .ensures)) ∙ sym (c .before .has .ensures) ∙ c .if3 .taken))
 
--- src/lib.rt:70:36
 single-requires : tie.Need-single-requires Inv-loop μ-loop
 single-requires c κs = omega (arith, c .before .before .before .before .before .before .before .before .before .before .pre, c .before .before .if2 .left)
 
--- src/lib.rt:70:13
 union-requires : tie.Need-union-requires Inv-loop μ-loop
 union-requires c κs = search needs
 
--- src/lib.rt:71:18
 add-at : tie.Need-add-at Inv-loop μ-loop
 add-at c = omega (arith, c .before .before .before .before .before .before .before .before .before .loop-test .taken)
 
--- src/lib.rt:61:5
 loop-less : tie.Need-loop-less Inv-loop μ-loop
 loop-less c = omega (arith, c .before .before .before .before .before .before .before .before .before .loop-test .taken)
 
--- src/lib.rt:61:5
 loop-again : tie.Need-loop-again Inv-loop μ-loop
 loop-again c = subst (λ z. Scanned (c .before .before .before .before .before .before .before .before .before .before .before .before .args .n) (c .before .before .before .before .before .before .before .before .before .before .before .before .args .text .now) ((c .before .before .before .before .before .before .before .before .before .before .loop .at) + 2) z) (ap (λ z. union (c .before .before .before .before .before .before .before .before .before .before .loop .met) z) (ap (λ z. single z) (sym (c .before .before .before .before .before .number-at .ensures)) ∙ sym (c .before .single .ensures)) ∙ sym (c .union .ensures)) (scanned-more (c .before .before .before .before .before .before .before .before .before .before .before .before .args .n) (c .before .before .before .before .before .before .before .before .before .before .before .before .args .text .now) (c .before .before .before .before .before .before .before .before .before .before .loop .at) (c .before .before .before .before .before .before .before .before .before .before .loop .met) (c .before .before .before .before .before .before .before .before .before .before .loop .inv) (c .before .before .before .before .before .before .before .before .before .loop-test .taken) (sym (c .before .before .before .before .before .before .before .is-digit .ensures) ∙ c .before .before .before .before .before .before .if1 .taken) (c .before .before .before .before .before .before .before .before .before .before .before .before .pre) (omega (arith, (c .before .before .before .before .before .number-at .ensures), c .before .before .before .before .if2 .left)) (ap (λ z. has (c .before .before .before .before .before .before .before .before .before .before .loop .met) z) (sym (c .before .before .before .before .before .number-at .ensures)) ∙ sym (c .before .before .before .has .ensures) ∙ c .before .before .if3 .left))
 
--- src/lib.rt:73:18
 add-at-2 : tie.Need-add-at-2 Inv-loop μ-loop
 add-at-2 c = omega (arith, c .before .before .before .loop-test .taken)
 
--- src/lib.rt:61:5
 loop-less-2 : tie.Need-loop-less-2 Inv-loop μ-loop
 loop-less-2 c = omega (arith, c .before .before .before .loop-test .taken)
 
--- src/lib.rt:61:5
 loop-again-2 : tie.Need-loop-again-2 Inv-loop μ-loop
 loop-again-2 c = scanned-skip (c .before .before .before .before .before .before .args .n) (c .before .before .before .before .before .before .args .text .now) (c .before .before .before .before .loop .at) (c .before .before .before .before .loop .met) (c .before .before .before .before .loop .inv) (c .before .before .before .loop-test .taken) (sym (c .before .is-digit .ensures) ∙ c .if1 .left)
 
--- src/lib.rt:55:1
 returns-3 : tie.Need-returns-3 Inv-loop μ-loop
 returns-3 c = sym (scanned-end (c .before .before .before .args .n) (c .before .before .before .args .text .now) (c .before .loop .at) (c .before .loop .met) (c .before .loop .inv) (c .loop-test .left))
 

@@ -8,19 +8,15 @@ use Rattle.text_reading.proofs.fault_of.Lts as lts
 use Rattle.sets.proofs.below32.Reads as below32-reads
 use Rattle.text_reading.proofs.fault.Reads as fault-reads
 
--- src/lib.rt:85:19
 below32-requires : tie.Need-below32-requires
 below32-requires c κs = search needs
 
--- src/lib.rt:86:13
 returns : tie.Need-returns
 returns c = fault-none (c .before .before .before .before .args .n) (c .before .before .before .before .pre .0) (c .before .before .before .before .args .text .now) _ _ (c .before .before .before .before .pre .1) (c .before .before .if1 .taken) (c .if2 .taken ∙ c .before .below32 .ensures)
 
--- src/lib.rt:89:5
 fault-requires : tie.Need-fault-requires
 fault-requires c κs = search needs
 
--- src/lib.rt:80:1
 returns-2 : tie.Need-returns-2
 returns-2 c = search needs
 

@@ -7,11 +7,9 @@ use Rattle.text_reading.proofs.is_digit.Tie as tie
 use Rattle.text_reading.proofs.is_digit.Reads as reads
 use Rattle.text_reading.proofs.is_digit.Lts as lts
 
--- src/lib.rt:33:1
 returns : tie.Need-returns
 returns c = sym (ap (λ z. z && leb (c .before .args .b) 57) (le-leb 48 (c .before .args .b) (c .if1 .taken)))
 
--- src/lib.rt:33:1
 returns-2 : tie.Need-returns-2
 returns-2 c = rw (lt-leb 48 (c .before .args .b) (c .if1 .left))
 

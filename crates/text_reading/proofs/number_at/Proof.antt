@@ -12,55 +12,42 @@ use Rattle.text_reading.proofs.number_at.Lts as lts
 use Rattle.numbers.proofs.peek.Reads as peek-reads
 use Rattle.text_reading.proofs.is_digit.Reads as is-digit-reads
 
--- src/lib.rt:44:13
 peek-requires : tie.Need-peek-requires
 peek-requires c κs = search needs
 
--- src/lib.rt:44:13
 cast-b : tie.Need-cast-b
 cast-b c = search needs
 
--- src/lib.rt:45:32
 add-peek : tie.Need-add-peek
 add-peek c = search needs
 
--- src/lib.rt:45:9
 peek-requires-2 : tie.Need-peek-requires-2
 peek-requires-2 c κs = search needs
 
--- src/lib.rt:46:8
 is-digit-requires : tie.Need-is-digit-requires
 is-digit-requires c κs = search needs
 
--- src/lib.rt:47:17
 cast-d : tie.Need-cast-d
 cast-d c = search needs
 
--- src/lib.rt:48:15
 sub-result : tie.Need-sub-result
 sub-result c = let f = (digit-is (getD (c .before .before .before .before .before .args .text .now) (c .before .before .before .before .before .args .at) 0) (c .before .before .before .before .before .pre .1)) in omega (arith, c .before .before .before .peek .ensures)
 
--- src/lib.rt:48:9
 mul-result : tie.Need-mul-result
 mul-result c = search needs
 
--- src/lib.rt:48:26
 sub-result-2 : tie.Need-sub-result-2
 sub-result-2 c = (digit-is (c .before .before .peek2 .result) (sym (c .before .is-digit .ensures) ∙ c .if1 .taken)) .0
 
--- src/lib.rt:48:9
 add-result : tie.Need-add-result
 add-result c = search needs
 
--- src/lib.rt:50:9
 sub-result-3 : tie.Need-sub-result-3
 sub-result-3 c = let f = (digit-is (getD (c .before .before .before .before .before .args .text .now) (c .before .before .before .before .before .args .at) 0) (c .before .before .before .before .before .pre .1)) in omega (arith, c .before .before .before .peek .ensures)
 
--- src/lib.rt:40:1
 returns : tie.Need-returns
 returns c = let g = (digit-is (c .before .before .peek2 .result) (sym (c .before .is-digit .ensures) ∙ c .if1 .taken)) in let f = (digit-is (getD (c .before .before .before .before .before .args .text .now) (c .before .before .before .before .before .args .at) 0) (c .before .before .before .before .before .pre .1)) in sym (value-two (c .before .before .before .before .before .args .text .now) (c .before .before .before .before .before .args .at) (c .before .before .before .peek .result - 48) ((c .before .before .peek2 .result) - 48) (omega (arith, c .before .before .before .peek .ensures)) (omega (arith, c .before .before .peek2 .ensures)) (omega arith))
 
--- src/lib.rt:40:1
 returns-2 : tie.Need-returns-2
 returns-2 c = sym (value-one (c .before .before .before .before .before .args .text .now) (c .before .before .before .before .before .args .at) (ap isDigit (sym (c .before .before .peek2 .ensures)) ∙ sym (c .before .is-digit .ensures) ∙ c .if1 .left) ∙ ap (λ z. z - 48) (sym (c .before .before .before .peek .ensures)))
 

@@ -15,83 +15,63 @@ use Rattle.text_reading.proofs.refused.Reads as refused-reads
 use Rattle.sets.proofs.below32.Reads as below32-reads
 use Rattle.sets.proofs.subset32.Reads as subset32-reads
 
--- src/lib.rt:93:9
 refused-requires : tie.Need-refused-requires
 refused-requires c κs = search needs
 
--- src/lib.rt:93:9
 returns : tie.Need-returns
 returns c = c .refused .ensures ∙ ap (λ z. textAnswer (c .before .before .before .args .n) z) (text-short (c .before .before .before .args .n) (c .before .before .before .args .text .now) (c .before .if1 .taken))
 
--- src/lib.rt:96:9
 refused-requires-2 : tie.Need-refused-requires-2
 refused-requires-2 c κs = search needs
 
--- src/lib.rt:96:9
 returns-2 : tie.Need-returns-2
 returns-2 c = c .refused2 .ensures ∙ ap (λ z. textAnswer (c .before .before .before .before .args .n) z) (text-long (c .before .before .before .before .args .n) (c .before .before .before .before .args .text .now) (c .before .if2 .taken))
 
--- src/lib.rt:99:9
 parse-requires : tie.Need-parse-requires
 parse-requires c κs = words-zero
 
--- src/lib.rt:101:19
 enum-known-part : tie.Need-enum-known-part
 enum-known-part c = search needs
 
--- src/lib.rt:101:25
 refused-requires-3 : tie.Need-refused-requires-3
 refused-requires-3 c κs = search needs
 
--- src/lib.rt:102:20
 enum-known-part-2 : tie.Need-enum-known-part-2
 enum-known-part-2 c = search needs
 
--- src/lib.rt:104:17
 fault-of-requires : tie.Need-fault-of-requires
 fault-of-requires c κs = (c .before .before .before .before .before .before .before .before .pre, counted (c .before .before .before .before .before .before .before .before .args .n) (c .before .before .before .before .before .before .before .before .args .text .now) (omega (arith, c .before .before .before .before .before .before .if1 .left)) (c .before .before .before .before .before .if2 .left) _ _ (c .before .before .before .parse .ensures) _ (c .before .part2 .given .1))
 
--- src/lib.rt:106:26
 enum-known-spot : tie.Need-enum-known-spot
 enum-known-spot c = search needs
 
--- src/lib.rt:106:32
 refused-requires-4 : tie.Need-refused-requires-4
 refused-requires-4 c κs = search needs
 
--- src/lib.rt:108:39
 enum-told : tie.Need-enum-told
 enum-told c = search needs
 
--- src/lib.rt:108:39
 below32-requires : tie.Need-below32-requires
 below32-requires c κs = search needs
 
--- src/lib.rt:108:24
 subset32-requires : tie.Need-subset32-requires
 subset32-requires c κs = search needs
 
--- src/lib.rt:113:36
 transposed-requires : tie.Need-transposed-requires
 transposed-requires c κs = (search needs, text-within (c .before .before .before .before .before .before .before .before .before .before .before .before .before .before .before .args .n) (c .before .before .before .before .before .before .before .before .before .before .before .before .before .before .before .args .text .now) (omega (arith, c .before .before .before .before .before .before .before .before .before .before .before .before .before .if1 .left)) (c .before .before .before .before .before .before .before .before .before .before .before .before .if2 .left) _ _ (c .before .before .before .before .before .before .before .before .before .before .parse .ensures) _ (c .before .before .before .before .before .before .before .before .part2 .given .1) (c .before .before .before .before .before .before .before .before .before .before .before .before .before .before .before .pre) _ (c .before .before .before .before .before .before .fault-of .ensures) (c .before .before .before .before .enum-told .given .1) (ap (λ z. subset z (c .before .before .before .before .before .before .before .before .part2 .given .0 .0 .set)) (sym (c .before .before .before .below32 .ensures)) ∙ sym (c .before .before .subset32 .ensures) ∙ c .before .if3 .taken) (search needs))
 
--- src/lib.rt:117:25
 refused-requires-5 : tie.Need-refused-requires-5
 refused-requires-5 c κs = search needs
 
--- src/lib.rt:87:1
 returns-3 : tie.Need-returns-3
 returns-3 c = c .refused3 .ensures ∙ ap (λ z. textAnswer (c .before .before .before .before .before .before .before .before .before .args .n) z) (text-bad (c .before .before .before .before .before .before .before .before .before .args .n) (c .before .before .before .before .before .before .before .before .before .args .text .now) (omega (arith, c .before .before .before .before .before .before .before .if1 .left)) (c .before .before .before .before .before .before .if2 .left) _ _ (c .before .before .before .before .parse .ensures) _ (c .before .before .part .given .1))
 
--- src/lib.rt:87:1
 returns-4 : tie.Need-returns-4
 returns-4 c = c .refused4 .ensures ∙ ap (λ z. textAnswer (c .before .before .before .before .before .before .before .before .before .before .before .before .before .args .n) z) (text-fault (c .before .before .before .before .before .before .before .before .before .before .before .before .before .args .n) (c .before .before .before .before .before .before .before .before .before .before .before .before .before .args .text .now) (omega (arith, c .before .before .before .before .before .before .before .before .before .before .before .if1 .left)) (c .before .before .before .before .before .before .before .before .before .before .if2 .left) _ _ (c .before .before .before .before .before .before .before .before .parse .ensures) _ (c .before .before .before .before .before .before .part2 .given .1) _ _ (c .before .before .before .before .fault-of .ensures) (c .before .before .spot .given .1))
 
--- src/lib.rt:87:1
 returns-5 : tie.Need-returns-5
 returns-5 c = text-done (c .before .before .before .before .before .before .before .before .before .before .before .before .before .before .before .before .args .n) (c .before .before .before .before .before .before .before .before .before .before .before .before .before .before .before .before .args .text .now) (omega (arith, c .before .before .before .before .before .before .before .before .before .before .before .before .before .before .if1 .left)) (c .before .before .before .before .before .before .before .before .before .before .before .before .before .if2 .left) _ _ (c .before .before .before .before .before .before .before .before .before .before .before .parse .ensures) _ (c .before .before .before .before .before .before .before .before .before .part2 .given .1) (c .before .before .before .before .before .before .before .before .before .before .before .before .before .before .before .before .pre) _ (c .before .before .before .before .before .before .before .fault-of .ensures) (c .before .before .before .before .before .enum-told .given .1) (ap (λ z. subset z (c .before .before .before .before .before .before .before .before .before .part2 .given .0 .0 .set)) (sym (c .before .before .before .before .below32 .ensures)) ∙ sym (c .before .before .before .subset32 .ensures) ∙ c .before .before .if3 .taken) (search needs) _ (c .transposed .ensures)
 
--- src/lib.rt:87:1
 returns-6 : tie.Need-returns-6
 returns-6 c = c .refused5 .ensures ∙ ap (λ z. textAnswer (c .before .before .before .before .before .before .before .before .before .before .before .before .before .before .before .args .n) z) (text-lacks (c .before .before .before .before .before .before .before .before .before .before .before .before .before .before .before .args .n) (c .before .before .before .before .before .before .before .before .before .before .before .before .before .before .before .args .text .now) (omega (arith, c .before .before .before .before .before .before .before .before .before .before .before .before .before .if1 .left)) (c .before .before .before .before .before .before .before .before .before .before .before .before .if2 .left) _ _ (c .before .before .before .before .before .before .before .before .before .before .parse .ensures) _ (c .before .before .before .before .before .before .before .before .part2 .given .1) (c .before .before .before .before .before .before .before .before .before .before .before .before .before .before .before .pre) _ (c .before .before .before .before .before .before .fault-of .ensures) (c .before .before .before .before .enum-told .given .1) (ap (λ z. subset z (c .before .before .before .before .before .before .before .before .part2 .given .0 .0 .set)) (sym (c .before .before .before .below32 .ensures)) ∙ sym (c .before .before .subset32 .ensures) ∙ c .before .if3 .left))
 

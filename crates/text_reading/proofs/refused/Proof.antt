@@ -5,11 +5,9 @@ use Rattle.text_reading.proofs.refused.Reads as reads
 use Rattle.text_reading.proofs.refused.Lts as lts
 use Rattle.graph.proofs.Graph.empty.Reads as empty-reads
 
--- src/lib.rt:83:9
 empty-requires : tie.Need-empty-requires
 empty-requires c κs = search needs
 
--- src/lib.rt:79:1
 returns : tie.Need-returns
 returns c = rw (c .empty .ensures)
 

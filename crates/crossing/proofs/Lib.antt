@@ -1,0 +1,4 @@
+pub mod Meeting
+pub mod Pairs
+pub mod Trying
+pub mod Theorems
