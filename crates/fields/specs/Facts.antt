@@ -1,4 +1,4 @@
--- The facts of a clause record (01, "The waiting order", "The MEL annotation"). 01: "Its facts are taken to hold at every goal"; a later version may give
+-- The facts of a clause record (01, "The record, version 1"): "Its facts are taken to hold at every goal"; a later version may give
 -- each goal its own.
 use mathlib.Core.List.{List}
 use Prim.Native.Nat.{ℕ}

@@ -18,7 +18,7 @@ use lib.ListN.{length, drop}
 use borrow.Author.Tests.{eqb-true}
 use Rattle.logic.proofs.Bools.{iff, is-false, or-elim}
 use Rattle.text.specs.Text.{pickText}
-use Rattle.text.specs.Lent.{stored}
+use Rattle.text.specs.Lent.{fits, stored}
 use Rattle.text.proofs.Lent.{fits-le}
 use Rattle.fields.specs.Fields.{goalCount}
 use Rattle.record.specs.WellFormed.{WellFormed}
@@ -35,7 +35,7 @@ use Rattle.expression.proofs.Search.{found-first, not-found}
 use Rattle.expression.proofs.Spec.{stands-in, in-times, cond-le}
 use Rattle.expression.proofs.Theorems as E′
 use Rattle.expression.proofs.Theorems.{uses-once, order-no-n, no-four, n-distinct, form-is, form-unique, text-fits}
-use Rattle.form.specs.Form.{Plan, noForm, written, settled, plan, filled}
+use Rattle.form.specs.Form.{Plan, noForm, written, settled, plan, Values, refusal, done, answer, filled}
 use Rattle.form.specs.Demand.{Expresses, FourGoals, OneOf, ExpressesFour, NoForm, HasForm, Demand}
 use Rattle.form.proofs.Plans.{plan-fine, settled-none, settled-some, none-answer, none-buffer, short-answer, short-buffer, fit-answer}
 
@@ -43,6 +43,16 @@ use Rattle.form.proofs.Plans.{plan-fine, settled-none, settled-some, no
 settled-found : (o : Option Four) (t : List ℕ) (q : Four) → settled o t ≡ noForm q → o ≡ some q
 settled-found none t q e = absurd (let z : _≡_ {A = ℕ} 0 1 = cc in omega arith)
 settled-found (some r) t q e = cc
+
+-- and nothing else is answered 13: a text is written, or 12 answered
+settled-thirteen : (o : Option Four) (t buf : List ℕ) → answer (settled o t) buf .number ≡ 13 → (q : Four) × (settled o t ≡ noForm q)
+unfolding answer
+settled-thirteen none t buf e = absurd (by-room (fits t buf) e)
+  where
+    by-room : (x : Bool) → cond x (done (length t)) (refusal 12 (length t)) .number ≡ 13 → ⊥
+    by-room true e = omega arith
+    by-room false e = omega arith
+settled-thirteen (some q) t buf e = (q, refl)
 
 stored-fit : (t buf : List ℕ) → length t ≤ length buf → stored t buf ≡ t ++ drop (length t) buf
 unfolding stored
@@ -157,19 +167,30 @@ module _ (b : List ℕ) where
     pub the-form : firstN R n ≡ none → HouseForm R n (form R n)
     the-form e = form-is R n (O′.before-order b) (not-found R n e) (w .goals-from)
 
-    exactly : ((q : Four) × (plan b ≡ noForm q)) ↔ ((e : Expr) → Expresses b e → ⊥)
-    exactly = (there, back (firstN R n) refl)
+    -- 13 is answered exactly if the search finds an N
+    pub found-thirteen : (buf : List ℕ) (q : Four) → firstN R n ≡ some q → answer (plan b) buf .number ≡ 13
+    found-thirteen buf q e = sym (ap (λ (v : Values). v .number) (none-answer (plan b) buf q (settles ∙ settled-some (text (form R n)) q e)))
+
+    thirteen-planned : (buf : List ℕ) → answer (plan b) buf .number ≡ 13 → (q : Four) × (plan b ≡ noForm q)
+    thirteen-planned buf e =
+        let (q, h) = settled-thirteen (firstN R n) (text (form R n)) buf (sym (ap (λ (p : Plan). answer p buf .number) settles) ∙ e) in
+        (q, settles ∙ h)
+
+    exactly : (buf : List ℕ) → (answer (plan b) buf .number ≡ 13) ↔ ((e : Expr) → Expresses b e → ⊥)
+    exactly buf = (there, back (firstN R n) refl)
       where
-        there : (q : Four) × (plan b ≡ noForm q) → (e : Expr) → Expresses b e → ⊥
-        there (q, h) e x =
+        there : answer (plan b) buf .number ≡ 13 → (e : Expr) → Expresses b e → ⊥
+        there t e x =
+            let (q, h) = thirteen-planned buf t in
             let (y, ga, gb, gc, gd) = found-first R n q (first-found q h) .is in
             order-no-n R n e (x .uses) (has-order e x) (q .a) (q .b) (q .c) (q .d) ga gb gc gd y
 
-        back : (o : Option Four) → firstN R n ≡ o → ((e : Expr) → Expresses b e → ⊥) → (q : Four) × (plan b ≡ noForm q)
+        back : (o : Option Four) → firstN R n ≡ o → ((e : Expr) → Expresses b e → ⊥) → answer (plan b) buf .number ≡ 13
         back none h f = let g = the-form h in absurd (f (form R n) (expresses (form R n) (g .uses) (g .order)))
-        back (some q) h f = (q, settles ∙ settled-some (text (form R n)) q h)
+        back (some q) h f = found-thirteen buf q h
 
-    no-form : (q : Four) → plan b ≡ noForm q → NoForm b q
+    -- the four goals of the plan are those that show it
+    pub no-form : (q : Four) → plan b ≡ noForm q → NoForm b q
     no-form q h =
         let f = found-first R n q (first-found q h) in
         record {
@@ -199,8 +220,13 @@ module _ (b : List ℕ) where
         }
 
     pub demand : Demand b
-    demand = record { exactly = exactly; without = no-form; otherwise = λ h. go h (firstN R n) refl }
+    demand =
+        record {
+          exactly = exactly;
+          without = λ buf t. let (q, h) = thirteen-planned buf t in (q, no-form q h);
+          otherwise = λ buf h. go buf h (firstN R n) refl;
+        }
       where
-        go : ((q : Four) → plan b ≡ noForm q → ⊥) → (o : Option Four) → firstN R n ≡ o → (e : Expr) × HasForm b e
-        go h none e = (form R n, has-form e)
-        go h (some q) e = absurd (h q (settles ∙ settled-some (text (form R n)) q e))
+        go : (buf : List ℕ) → (answer (plan b) buf .number ≡ 13 → ⊥) → (o : Option Four) → firstN R n ≡ o → (e : Expr) × HasForm b e
+        go buf h none e = (form R n, has-form e)
+        go buf h (some q) e = absurd (h (found-thirteen buf q e))

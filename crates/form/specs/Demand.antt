@@ -10,7 +10,7 @@ use Rattle.expression.specs.Expr.{Expr, UsesOnce, UsesFour, Goals, House}
 use Rattle.expression.specs.Induced as I
 use Rattle.expression.specs.Search.{Four, NotAfter}
 use Rattle.expression.specs.Text.{text}
-use Rattle.form.specs.Form.{noForm, plan, refusal, thirteen, done, answer, filled}
+use Rattle.form.specs.Form.{plan, refusal, thirteen, done, answer, filled}
 
 -- 01: "It has the record's order if, for all goals i and j, it induces i before j exactly when the record has i before j."
 abbrev pub HasOrder : List ℕ → Expr → Type 0
@@ -57,10 +57,11 @@ pub record HasForm (b : List ℕ) (e : Expr) : Type 0 where
       → (answer (plan b) buf ≡ done (length (text e))) × (filled (plan b) buf ≡ text e ++ drop (length (text e)) buf)
   pub names : (buf : List ℕ) → length buf < length (text e) → (answer (plan b) buf ≡ refusal 12 (length (text e))) × (filled (plan b) buf ≡ buf)
 
+-- The call's answer to a buffer is `answer (plan b) buf`; its number does not depend on the buffer where it is 13.
 pub record Demand (b : List ℕ) : Type 0 where
-  -- "no form" exactly if no expression, however nested, uses each goal exactly once and has exactly the record's order
-  pub exactly : ((q : Four) × (plan b ≡ noForm q)) ↔ ((e : Expr) → Expresses b e → ⊥)
+  -- "no form", 13, exactly if no expression, however nested, uses each goal exactly once and has exactly the record's order
+  pub exactly : (buf : List ℕ) → (answer (plan b) buf .number ≡ 13) ↔ ((e : Expr) → Expresses b e → ⊥)
   -- with it the first four goals
-  pub without : (q : Four) → plan b ≡ noForm q → NoForm b q
+  pub without : (buf : List ℕ) → answer (plan b) buf .number ≡ 13 → (q : Four) × NoForm b q
   -- otherwise the form
-  pub otherwise : ((q : Four) → plan b ≡ noForm q → ⊥) → (e : Expr) × HasForm b e
+  pub otherwise : (buf : List ℕ) → (answer (plan b) buf .number ≡ 13 → ⊥) → (e : Expr) × HasForm b e

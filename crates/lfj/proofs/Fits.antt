@@ -8,7 +8,7 @@ use mathlib.Core.List.{List}
 use mathlib.Core.Logic.{_⊎_, inl, inr, ⊎-elim, dite}
 use mathlib.Core.Option.{Option, none, some}
 use Prim.Native.Nat.{ℕ, suc, _+_, _-_, _*_, _^_, _≤_, _<_, zero-le}
-use native.Mathlib.Decide.{decLe}
+use native.Mathlib.Decide.{decLe, ℕ-discrete}
 use native.Mathlib.Omega.{arith}
 use lib.Dec.{leb}
 use lib.ListN.{length, take, replicate}
@@ -48,9 +48,9 @@ use Rattle.mel.proofs.Bound.{text-most, count-width, square, product}
 use Rattle.mel.proofs.Record.{facts-text, facts-length}
 use Rattle.annotator.specs.Answers.{afterReading, noRecord, read, noText, textOf, goalText, noCheck, saying, ruled, check}
 use Rattle.lfj.specs.Words.{noGoals, goalsAfter, after, formWord, melWord}
+use Rattle.lfj.specs.Fits.{PlacesFit}
 use Rattle.lfj.proofs.Refusals.{refusal-place}
 use Rattle.lfj.proofs.Encoding.{form-length, mel-length}
-use Rattle.lfj.proofs.Operations.{isNone}
 
 isRefused : F.Plan → Bool
 isRefused (F.refused k p) = true
@@ -68,23 +68,20 @@ module _ (b : List ℕ) where
   FormFits v = (v .length ≤ 160) × ((v .place ≤ length b) ⊎ (v .place ≤ 160))
 
   form-fits : (buf : List ℕ) → FormFits (F.answer (F.plan b) buf)
-  unfolding isNone
   form-fits buf = go (reading b) refl
     where
-      formed : WellFormed b → ((q : Four) → F.plan b ≡ F.noForm q → ⊥) → FormFits (F.answer (F.plan b) buf)
+      formed : WellFormed b → (F.answer (F.plan b) buf .number ≡ 13 → ⊥) → FormFits (F.answer (F.plan b) buf)
       formed w other =
-          let (e, h) = demand b w .otherwise other in
+          let (e, h) = demand b w .otherwise buf other in
           dite (decLe (length (text e)) (length buf))
           (λ l. subst FormFits (sym (h .writes buf l .0)) (omega (arith, h .short), inr (omega arith)))
           (λ l. subst FormFits (sym (h .names buf (omega arith) .0)) (omega arith, inr (omega (arith, h .short))))
 
-      planned : WellFormed b → (p : F.Plan) → F.plan b ≡ p → FormFits (F.answer (F.plan b) buf)
-      planned w (F.refused k l) e = formed w (λ q f. true≢false (ap isNone (sym f ∙ e)))
-      planned w (F.noForm q) e = subst FormFits (sym (demand b w .without q e .answers buf .0)) (omega arith, inr (omega arith))
-      planned w (F.written t) e = formed w (λ q f. true≢false (ap isNone (sym f ∙ e)))
+      formless : WellFormed b → F.answer (F.plan b) buf .number ≡ 13 → FormFits (F.answer (F.plan b) buf)
+      formless w t = let (q, h) = demand b w .without buf t in subst FormFits (sym (h .answers buf .0)) (omega arith, inr (omega arith))
 
       go : (s : Reading) → reading b ≡ s → FormFits (F.answer (F.plan b) buf)
-      go Fine q = planned (fine-well-formed b q) (F.plan b) refl
+      go Fine q = let w = fine-well-formed b q in dite (ℕ-discrete (F.answer (F.plan b) buf .number) 13) (formless w) (formed w)
       go (Unread r) q =
           subst FormFits (refused-answer (F.plan b) buf (r .number) (r .place) (plan-refused b r q)) (omega arith, inl (refusal-place b r q))
 
@@ -224,16 +221,6 @@ module _ (b : List ℕ) where
           let v = afterReading noCheck s (ruled (judged n (before b) (readText n t))) in (v .place ≤ length b) ⊎ (v .place ≤ 512)
       go Fine q = inr (by-text (readText n t) refl)
       go (Unread r) q = inl (refusal-place b r q)
-
--- the place of every answer fits
-pub record PlacesFit (b : List ℕ) : Type 0 where
-  pub of-read : read b .place < 2 ^ 32
-  pub of-after : (g : ℕ) → after b g .place < 2 ^ 32
-  pub of-form : (buf : List ℕ) → F.answer (F.plan b) buf .place < 2 ^ 32
-  pub of-estimate : (v : F.Values) → F.Estimated (F.plan b) v → v .place < 2 ^ 32
-  pub of-mel : (buf : List ℕ) → melAnswer b buf .place < 2 ^ 32
-  pub of-text : (g : ℕ) → goalText b g .place < 2 ^ 32
-  pub of-check : (t : List ℕ) → check b t .place < 2 ^ 32
 
 pub place-fits : (b : List ℕ) → length b < 2 ^ 32 → PlacesFit b
 place-fits b h =

@@ -29,12 +29,12 @@ use Rattle.grammar.specs.Check.{firstDiffer, verdict, judged, checked}
 use Rattle.grammar.proofs.Differences.{first-difference}
 use Rattle.form.specs.Form as F
 use Rattle.form.proofs.Plans.{plan-refused}
-use Rattle.form.proofs.Theorems.{demand}
+use Rattle.form.proofs.Theorems.{no-form}
 use Rattle.annotator.specs.Answers.{afterReading, noRecord, read, noText, textOf, goalText, noCheck, saying, ruled, check}
 use Rattle.lfj.specs.Words.{readWord, noGoals, goalsAfter, after, afterWord, formWord}
 use Rattle.lfj.proofs.Encoding.{read-number, after-number, form-number}
 
-unfoldable pub isNone : F.Plan → Bool
+isNone : F.Plan → Bool
 isNone (F.refused k p) = false
 isNone (F.noForm q) = true
 isNone (F.written t) = false
@@ -127,7 +127,7 @@ module _ (b : List ℕ) where
       go : (s : Reading) → reading b ≡ s → (q .a < 2 ^ 6) × (q .b < 2 ^ 6) × (q .c < 2 ^ 6) × (q .d < 2 ^ 6)
       go Fine f =
           let w = fine-well-formed b f in
-          let g = demand b w .without q e .shape .goals in
+          let g = no-form b w q e .shape .goals in
           let m = w .goals-to in
           (omega (arith, g .0 .1, m), omega (arith, g .1 .1, m), omega (arith, g .2 .1, m), omega (arith, g .3 .1, m))
       go (Unread r) f = absurd (true≢false (ap isNone (sym e ∙ plan-refused b r f)))

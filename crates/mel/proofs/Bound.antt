@@ -12,7 +12,7 @@ use Rattle.logic.proofs.Bools.{and-l}
 use Rattle.sets.specs.Sets.{has, meet, union, without, below, count, membersFrom, members}
 use Rattle.sets.proofs.Laws.{has-meet, has-without}
 use Rattle.sets.proofs.Members.{count-members, no-more}
-use Rattle.text.specs.Text.{some}
+use Rattle.text.specs.Text.{nonEmpty}
 use Rattle.text.proofs.Laws.{decimal-length}
 use Rattle.stages.specs.Mel.{Ground, Indep, goal, start, checks}
 use Rattle.stages.specs.Masks.{given, once, twice, goalWith, candidates, partners}
@@ -117,7 +117,7 @@ module _ (head : ℕ) (sets grounds rows : List ℕ) (n : ℕ) where
   stage-most p q h =
       ⊎-elim
       (λ e. omega (arith, ap length (stage-one head sets grounds rows p q e), decimal-length q))
-      (λ d. omega (arith, simp length-append at (ap length (stage-parts head sets grounds rows p q d)), checks-most p q h, goals-bound p q, arrow-length (some (checksText head sets grounds rows false p q))))
+      (λ d. omega (arith, simp length-append at (ap length (stage-parts head sets grounds rows p q d)), checks-most p q h, goals-bound p q, arrow-length (nonEmpty (checksText head sets grounds rows false p q))))
       (same-or q (p + 1))
 
   stages-most : (q : ℕ) → q ≤ n → length (stagesText head sets grounds rows q) ≤ q * (15 * (v + v * v)) + 8 * q

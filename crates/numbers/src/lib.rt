@@ -1,4 +1,5 @@
 // The numbers of an expression's text, bare or in parentheses of their own, and the nodes that each reader of a text answers with.
+use graph::Graph;
 ghost use mathlib.Core.Path.{_≡_};
 ghost use Prim.Native.Nat.{_≤_};
 ghost use lib.Dec.{leb};
@@ -54,7 +55,7 @@ fn mask_of(v: usize) -> u32
     requires { ⌜ 1 ≤ v ⌝ }
     ensures { λ r. ⌜ r ≡ maskOf v ⌝ }
 {
-    if v <= 32 { sets::single32(v - 1) } else { 0 }
+    if v <= Graph::MAX { Graph::single(v) } else { 0 }
 }
 
 // Not 0 if the number is above 32.

@@ -8,7 +8,7 @@ use lib.Dec.{leb, ltb, eqb}
 use lib.ListN.{length, take, drop, length-append, length-map}
 use lib.Seq.{take-append-seam}
 use borrow.Author.Tests.{le-leb, lt-leb, leb-true, leb-false}
-use Rattle.text.specs.Text.{pickText, pickBool, someTexts, decimal, only, joinFrom, some}
+use Rattle.text.specs.Text.{pickText, pickBool, someTexts, decimal, only, joinFrom, nonEmpty}
 use Rattle.text.specs.Lent.{fits, stored}
 use Rattle.text.proofs.Laws.{join-step, join-append}
 use Rattle.fields.specs.Fields.{goalCount, goalSet}
@@ -40,9 +40,9 @@ stage-some c s = go (eqb (s .last) (s .after + 1))
     t : List ℕ
     t = checksFrom false (checks c (s .after) (s .last))
 
-    go : (k : Bool) → 1 ≤ length (pickText k (decimal (s .last)) ((40 ∷ []) ++ t ++ arrowIf (some t) ++ goalsText (s .after) (s .last) ++ (41 ∷ [])))
+    go : (k : Bool) → 1 ≤ length (pickText k (decimal (s .last)) ((40 ∷ []) ++ t ++ arrowIf (nonEmpty t) ++ goalsText (s .after) (s .last) ++ (41 ∷ [])))
     go true = decimal-some (s .last)
-    go false = omega (arith, length-append ((40 ∷ []) ++ t ++ arrowIf (some t) ++ goalsText (s .after) (s .last)) (41 ∷ []))
+    go false = omega (arith, length-append ((40 ∷ []) ++ t ++ arrowIf (nonEmpty t) ++ goalsText (s .after) (s .last)) (41 ∷ []))
 
 stages-some : (c : Clause) (q : ℕ) → 0 < q → 1 ≤ length (stagesText c q)
 unfolding stagesText

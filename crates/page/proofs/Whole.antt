@@ -19,7 +19,7 @@ use Rattle.record.specs.WellFormed.{WellFormed}
 use Rattle.form.specs.Form.{plan}
 use Rattle.mel.specs.Annotation.{mel}
 use Rattle.page.specs.Sheet.{melWord, line, refusedText, goalLines, formText, melRoom, melLine, sheetWith, goalText, sheet}
-use Rattle.page.specs.Parts.{countLine, acceptedTop, melShown, melRest, topOf, restOf, lines, Shows}
+use Rattle.page.specs.Parts.{countLine, acceptedTop, melShown, melRest, topOf, restOf, lines, shownOf, partsOf, Shows}
 use Rattle.page.specs.declared.Parts.{Parts}
 use Rattle.page.proofs.Lines.{count-length, goals-length}
 use Rattle.page.proofs.Plans.{form-limit}
@@ -56,6 +56,21 @@ module _ (b : List ℕ) where
   pub lines-refused : (r : Refusal) → reading b ≡ Refused r → line (refusedText (r .number) (r .place)) ≡ lines b
   unfolding lines topOf restOf
   lines-refused r e = sym (append-nil (line (refusedText (r .number) (r .place)))) ∙ sym (ap (λ (s : Reading). topOf s b ++ restOf s b) e)
+
+  -- an answer of the parts' lengths is that of the specification
+  parts-are : (s : Reading) → reading b ≡ s → (r : Parts) → r .top ≡ length (topOf s b) → r .mel ≡ length (shownOf s b) → r .end ≡ length (lines b) → r ≡ partsOf b
+  unfolding partsOf
+  parts-are s h r e f g =
+      λ i. record { top = (e ∙ sym (ap (λ (u : Reading). length (topOf u b)) h)) i; mel = (f ∙ sym (ap (λ (u : Reading). length (shownOf u b)) h)) i; end = g i }
+
+  pub parts-fine : reading b ≡ Fine → (r : Parts) → r .top ≡ length (acceptedTop b) → r .mel ≡ length (melShown (mel b)) → r .end ≡ length (lines b) → r ≡ partsOf b
+  unfolding topOf shownOf
+  parts-fine = parts-are Fine
+
+  pub parts-refused : (x : Refusal) → reading b ≡ Refused x → (r : Parts) → r .top ≡ length (line (refusedText (x .number) (x .place))) → r .mel ≡ 0
+      → r .end ≡ length (lines b) → r ≡ partsOf b
+  unfolding topOf shownOf
+  parts-refused x = parts-are (Refused x)
 
   -- the three parts are the sheet
   pub sheet-fine : reading b ≡ Fine → acceptedTop b ++ melShown (mel b) ++ melRest (mel b) ≡ sheet b

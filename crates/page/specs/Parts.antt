@@ -45,6 +45,15 @@ restOf (Refused r) b = []
 unfoldable pub lines : List ℕ → List ℕ
 lines b = topOf (reading b) b ++ restOf (reading b) b
 
+-- what is shown of the MEL text
+unfoldable pub shownOf : Reading → List ℕ → List ℕ
+shownOf Fine b = melShown (mel b)
+shownOf (Refused r) b = []
+
+-- how long the parts are: the lines end at `end`, and the MEL text stands between those up to `top` and the others
+unfoldable pub partsOf : List ℕ → Parts
+partsOf b = record { top = length (topOf (reading b) b); mel = length (shownOf (reading b) b); end = length (lines b) }
+
 -- the parts of two arrays that make the sheet, one after the other
 pub record Shows (b lines text : List ℕ) (r : Parts) : Type 0 where
   pub top-to : r .top ≤ r .end

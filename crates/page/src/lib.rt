@@ -150,6 +150,7 @@ fn put_mel(lines: &mut [u8], top: usize, bytes: &[u8], text: &mut [u8]) -> Parts
 pub fn write(bytes: &[u8], lines: &mut [u8], text: &mut [u8]) -> Parts
     requires { ⌜ 2048 ≤ length (now lines) ⌝ }
     requires { ⌜ length (now text) ≡ 32768 ⌝ }
+    ensures { λ r. ⌜ r ≡ R.partsOf (now (bytes .entry)) ⌝ }
     ensures { λ r. ⌜ R.Shows (now (bytes .entry)) (now (lines .exit)) (now (text .exit)) r ⌝ }
     ensures { λ r. ⌜ Wrote (R.lines (now (bytes .entry))) 0 (now (lines .entry)) (r .end) (now (lines .exit)) ⌝ }
     ensures { λ _. ⌜ now (text .exit) ≡ M.melBuffer (now (bytes .entry)) (now (text .entry)) ⌝ }

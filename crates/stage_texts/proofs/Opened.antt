@@ -6,7 +6,7 @@ use Prim.Native.Nat.{ℕ, _+_, max}
 use native.Mathlib.Omega.{arith}
 use lib.ListN.{length}
 use lib.Seq.{sets}
-use Rattle.text.specs.Text.{Wrote, some, only}
+use Rattle.text.specs.Text.{Wrote, nonEmpty, only}
 use Rattle.text.proofs.Laws.{recast, over}
 use Rattle.stages.specs.Mel.{Check, Ground, Indep, checkText, checksFrom, arrowIf}
 use Rattle.checks.proofs.Lists.{checks-step, checks-none}
@@ -16,13 +16,13 @@ comma : (c : Check) (l : List Check) → checksFrom true (c ∷ l) ≡ 44 ∷ ch
 unfolding only
 comma c l = checks-step true c l ∙ ap (λ (t : List ℕ). 44 ∷ t) (sym (checks-step false c l))
 
-some-text : (c : Check) (t : List ℕ) → some (only false 44 ++ checkText c ++ t) ≡ true
-unfolding some only checkText
+some-text : (c : Check) (t : List ℕ) → nonEmpty (only false 44 ++ checkText c ++ t) ≡ true
+unfolding nonEmpty only checkText
 some-text (Ground x) t = refl
 some-text (Indep x y) t = refl
 
-some-check : (c : Check) (l : List Check) → some (checksFrom false (c ∷ l)) ≡ true
-some-check c l = ap some (checks-step false c l) ∙ some-text c (checksFrom true l)
+some-check : (c : Check) (l : List Check) → nonEmpty (checksFrom false (c ∷ l)) ≡ true
+some-check c l = ap nonEmpty (checks-step false c l) ∙ some-text c (checksFrom true l)
 
 -- the parenthesis in its place, or alone
 pub opened : (l : List Check) {at c e : ℕ} {old n o : List ℕ} → Wrote (checksFrom true l) at old c n → Wrote (40 ∷ []) at n e o
@@ -35,18 +35,18 @@ opened (x ∷ l) {at} {c} {e} {old} {n} {o} w v =
     let u : Wrote (44 ∷ checksFrom false (x ∷ l)) at old c n = recast (comma x l) w in
     record { place = omega (arith, u .place, v .place); bytes = over u v .bytes }
 
-pub some-checks : (l : List Check) → some (checksFrom true l) ≡ some (checksFrom false l)
-some-checks [] = ap some (checks-none true ∙ sym (checks-none false))
-some-checks (c ∷ l) = unfold some in (ap some (comma c l) ∙ sym (some-check c l))
+pub some-checks : (l : List Check) → nonEmpty (checksFrom true l) ≡ nonEmpty (checksFrom false l)
+some-checks [] = ap nonEmpty (checks-none true ∙ sym (checks-none false))
+some-checks (c ∷ l) = unfold nonEmpty in (ap nonEmpty (comma c l) ∙ sym (some-check c l))
 
 -- the checks with the arrow behind them, where there are none and where there are some
-pub around-none : (l : List Check) → length (checksFrom true l) ≡ 0 → length (checksFrom false l) + length (arrowIf (some (checksFrom false l))) ≡ 0
-around-none [] h = rw (checks-none false) (unfold some arrowIf in refl)
+pub around-none : (l : List Check) → length (checksFrom true l) ≡ 0 → length (checksFrom false l) + length (arrowIf (nonEmpty (checksFrom false l))) ≡ 0
+around-none [] h = rw (checks-none false) (unfold nonEmpty arrowIf in refl)
 around-none (c ∷ l) h = absurd (omega (arith, ap length (comma c l)))
 
 pub around-some : (l : List Check) → (length (checksFrom true l) ≡ 0 → ⊥)
-    → length (checksFrom false l) + length (arrowIf (some (checksFrom false l))) ≡ length (checksFrom true l) + 1
+    → length (checksFrom false l) + length (arrowIf (nonEmpty (checksFrom false l))) ≡ length (checksFrom true l) + 1
 around-some [] h = absurd (h (ap length (checks-none true)))
 around-some (c ∷ l) h =
-    let a : length (arrowIf (some (checksFrom false (c ∷ l)))) ≡ 2 = rw (some-check c l) (unfold arrowIf in refl) in
+    let a : length (arrowIf (nonEmpty (checksFrom false (c ∷ l)))) ≡ 2 = rw (some-check c l) (unfold arrowIf in refl) in
     omega (arith, a, ap length (comma c l))

@@ -6,7 +6,7 @@ use Prim.Native.Nat.{ℕ, zero, suc, _+_, _<_, max}
 use native.Mathlib.Omega.{arith}
 use borrow.Author.Tests.{eq-eqb, ne-eqb}
 use Rattle.sets.specs.Sets.{has, membersFrom, members}
-use Rattle.text.specs.Text.{Wrote, pickBool, someTexts, decimal, joinFrom, some, only}
+use Rattle.text.specs.Text.{Wrote, pickBool, someTexts, decimal, joinFrom, nonEmpty, only}
 use Rattle.text.proofs.Laws.{join-step, join-none, join-append}
 use Rattle.stages.specs.Mel as W
 use Rattle.stages.specs.Mel.{Clause, Stage, Check, Ground, Indep, goal, checksFrom, arrowIf, goalsText, checks, start, stages, thoseFrom, indepsFrom, indepCheck}
@@ -64,7 +64,7 @@ module _ (head : ℕ) (sets grounds rows : List ℕ) where
     unfolding checksText
     checks-opened w v = opened (checks (given head sets grounds rows) p q) w v
 
-    pub checks-some : some (checksText head sets grounds rows true p q) ≡ some (checksText head sets grounds rows false p q)
+    pub checks-some : nonEmpty (checksText head sets grounds rows true p q) ≡ nonEmpty (checksText head sets grounds rows false p q)
     unfolding checksText
     checks-some = some-checks (checks (given head sets grounds rows) p q)
 
@@ -73,7 +73,7 @@ module _ (head : ℕ) (sets grounds rows : List ℕ) where
     stage-one e = rw (eq-eqb q (p + 1) e)
 
     pub stage-parts : (q ≡ p + 1 → ⊥) →
-        (40 ∷ []) ++ checksText head sets grounds rows false p q ++ arrowIf (some (checksText head sets grounds rows false p q)) ++ goalsText p q ++ (41 ∷ []) ≡ stageText head sets grounds rows p q
+        (40 ∷ []) ++ checksText head sets grounds rows false p q ++ arrowIf (nonEmpty (checksText head sets grounds rows false p q)) ++ goalsText p q ++ (41 ∷ []) ≡ stageText head sets grounds rows p q
     unfolding stageText W.stageText checksText
     stage-parts n = rw (ne-eqb q (p + 1) n)
 

@@ -8,7 +8,7 @@ use native.Mathlib.Omega.{arith}
 use lib.Dec.{ltb, eqb}
 use lib.ListN.{length}
 use Rattle.sets.specs.Sets.{has}
-use Rattle.text.specs.Text.{pickText, decimal, joinFrom, some}
+use Rattle.text.specs.Text.{pickText, decimal, joinFrom, nonEmpty}
 use Rattle.stages.proofs.Stages.{all-append, by-stages, start-falls, stages-none, stages-last}
 use Rattle.stages.specs.Plain.{All}
 use Rattle.stages.specs.Mel.{start, Clause, Stage, Check, Ground, Indep, thoseFrom, shared, across, met, groundCheck, indepCheck, indepsFrom, checks, stages, checksFrom, arrowIf, goalsText, stageText, stagesText, melText}
@@ -53,7 +53,7 @@ module _ (w head : ℕ) (sets : List ℕ) (g₁ g₂ : ℕ → ℕ) (k₁ k₂ :
   unfolding stageText
   stage-same s u =
       ap (λ (l : List Check). pickText (eqb (s .last) (s .after + 1)) (decimal (s .last))
-      ((40 ∷ []) ++ checksFrom false l ++ arrowIf (some (checksFrom false l)) ++ goalsText (s .after) (s .last) ++ (41 ∷ []))) (checks-same (s .after) (s .last) u)
+      ((40 ∷ []) ++ checksFrom false l ++ arrowIf (nonEmpty (checksFrom false l)) ++ goalsText (s .after) (s .last) ++ (41 ∷ []))) (checks-same (s .after) (s .last) u)
 
   abbrev Inside : Stage → Type 0
   Inside s = s .after < length sets

@@ -4,7 +4,7 @@ use mathlib.Core.List.{List, [], _∷_, map}
 use Prim.Native.Nat.{ℕ}
 use Rattle.logic.specs.Quantifiers.{someBelow}
 use Rattle.sets.specs.Sets.{has}
-use Rattle.text.specs.Text.{decimal, joinFrom, some, only}
+use Rattle.text.specs.Text.{decimal, joinFrom, nonEmpty, only}
 use Rattle.stages.specs.Mel.{Clause, goal, someGoal, thoseFrom, goalsFrom, occurs, firstIn, boundary, largest, start, shared, across, met, groundCheck, indepCheck, indepsFrom, checks, stagesTo, stages, checkText, checksFrom, arrowIf, goalsText, stageText, stagesText, melText}
 use Rattle.stages.specs.Masks.{given}
 
@@ -27,5 +27,5 @@ examples =
     []
 
 pub examples-hold : map (λ d. melText (d .clause)) examples ≡ map (λ d. d .text) examples
-unfolding given goal has someGoal someBelow occurs firstIn boundary largest start thoseFrom goalsFrom shared across met groundCheck indepCheck indepsFrom checks stagesTo stages checkText checksFrom arrowIf goalsText stageText stagesText melText decimal joinFrom some only
+unfolding given goal has someGoal someBelow occurs firstIn boundary largest start thoseFrom goalsFrom shared across met groundCheck indepCheck indepsFrom checks stagesTo stages checkText checksFrom arrowIf goalsText stageText stagesText melText decimal joinFrom nonEmpty only
 examples-hold = refl

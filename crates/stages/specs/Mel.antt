@@ -8,7 +8,7 @@ use lib.Dec.{ltb, eqb}
 use lib.ListN.{length, getD}
 use Rattle.logic.specs.Quantifiers.{someBelow}
 use Rattle.sets.specs.Sets.{has}
-use Rattle.text.specs.Text.{pickText, decimal, joinFrom, some}
+use Rattle.text.specs.Text.{pickText, decimal, joinFrom, nonEmpty}
 
 -- What the annotation reads of a clause. Every variable is below width; sets holds the goals' variable sets, goal 1 first. ground g is the set of
 -- the variables known ground at goal g, known g x y says that x and y are known independent there (003's I).
@@ -140,7 +140,7 @@ unfoldable pub stageText : Clause → Stage → List ℕ
 stageText c s =
     let t = checksFrom false (checks c (s .after) (s .last)) in
     pickText (eqb (s .last) (s .after + 1)) (decimal (s .last))
-    ((40 ∷ []) ++ t ++ arrowIf (some t) ++ goalsText (s .after) (s .last) ++ (41 ∷ []))
+    ((40 ∷ []) ++ t ++ arrowIf (nonEmpty t) ++ goalsText (s .after) (s .last) ++ (41 ∷ []))
 
 -- Step 5. "Stages are joined by `,` in clause order": those of goals 1 to q
 unfoldable pub stagesText : Clause → ℕ → List ℕ

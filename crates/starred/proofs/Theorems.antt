@@ -8,7 +8,7 @@ use Rattle.logic.specs.Quantifiers.{every, someBelow}
 use Rattle.sets.specs.Sets.{has, setOf, within, subset}
 use Rattle.arrays.specs.Table.{tableFrom}
 use Rattle.graph.specs.Graph.{goalsOf, rowsOf}
-use Rattle.text.specs.Text.{decimal, only, joinFrom, some}
+use Rattle.text.specs.Text.{decimal, only, joinFrom, nonEmpty}
 use Rattle.text.specs.Lent.{fits, stored}
 use Rattle.fields.specs.Fields.{number, placeAfter, goalSet, listed, goalCount}
 use Rattle.reading.specs.Reading.{_must_else_place_, counts, header, firstBad, goal, goals, ordered, ascends, pair, pairs, ending, readingOf, versionOne, reading}
@@ -24,16 +24,16 @@ use Rattle.mel.specs.Annotation.{clauseOf, mel}
 use Rattle.grammar.specs.Reading.{readText}
 use Rattle.grammar.specs.Check.{same, differs, firstDiffer, checked}
 use Rattle.annotator.specs.Answers.{noRecord, read, saying, check}
-use Rattle.starred.specs.Drafts.{bytes, _-_, asked, Has, waiting, Answer, reads, checks, formBy, four, shared, two, drafts}
+use Rattle.starred.specs.Drafts.{bytes, _then_, asked, Has, waiting, Answer, reads, checks, formBy, four, shared, two, drafts}
 use Rattle.starred.proofs.Rows.{planned, annotated}
 
 -- The records of the drafts have the drafts' waits.
 pub waits-few
     : Has (waiting 1 []) (asked [])
-    × Has (waiting 3 (1 - 3 ∷ [])) (asked (1 - 3 ∷ []))
-    × Has (waiting 3 (1 - 2 ∷ 2 - 3 ∷ [])) (asked (1 - 2 ∷ 2 - 3 ∷ []))
+    × Has (waiting 3 (1 then 3 ∷ [])) (asked (1 then 3 ∷ []))
+    × Has (waiting 3 (1 then 2 ∷ 2 then 3 ∷ [])) (asked (1 then 2 ∷ 2 then 3 ∷ []))
     × Has (waiting 3 []) (asked [])
-    × Has two (asked (1 - 2 ∷ []))
+    × Has two (asked (1 then 2 ∷ []))
 unfolding every someBelow has setOf within subset tableFrom goalsOf rowsOf number placeAfter goalSet listed _must_else_place_ counts header firstBad goal goals ordered
     ascends pair pairs ending readingOf versionOne reading knownIndependent independent waits
 waits-few = (
@@ -44,23 +44,23 @@ waits-few = (
   record { fine = refl; rows = refl },
 )
 
-pub waits-n : Has (waiting 4 (1 - 3 ∷ 2 - 3 ∷ 2 - 4 ∷ [])) (asked (1 - 3 ∷ 2 - 3 ∷ 2 - 4 ∷ []))
+pub waits-n : Has (waiting 4 (1 then 3 ∷ 2 then 3 ∷ 2 then 4 ∷ [])) (asked (1 then 3 ∷ 2 then 3 ∷ 2 then 4 ∷ []))
 unfolding every someBelow has setOf within subset tableFrom goalsOf rowsOf number placeAfter goalSet listed _must_else_place_ counts header firstBad goal goals ordered
     ascends pair pairs ending readingOf versionOne reading knownIndependent independent waits
 waits-n = record { fine = refl; rows = refl }
 
-pub waits-turned : Has (waiting 4 (1 - 3 ∷ 1 - 4 ∷ 2 - 4 ∷ [])) (asked (1 - 3 ∷ 1 - 4 ∷ 2 - 4 ∷ []))
+pub waits-turned : Has (waiting 4 (1 then 3 ∷ 1 then 4 ∷ 2 then 4 ∷ [])) (asked (1 then 3 ∷ 1 then 4 ∷ 2 then 4 ∷ []))
 unfolding every someBelow has setOf within subset tableFrom goalsOf rowsOf number placeAfter goalSet listed _must_else_place_ counts header firstBad goal goals ordered
     ascends pair pairs ending readingOf versionOne reading knownIndependent independent waits
 waits-turned = record { fine = refl; rows = refl }
 
-pub waits-chain : Has (waiting 4 (1 - 3 ∷ 2 - 3 ∷ 2 - 4 ∷ 3 - 4 ∷ [])) (asked (1 - 3 ∷ 2 - 3 ∷ 2 - 4 ∷ 3 - 4 ∷ []))
+pub waits-chain : Has (waiting 4 (1 then 3 ∷ 2 then 3 ∷ 2 then 4 ∷ 3 then 4 ∷ [])) (asked (1 then 3 ∷ 2 then 3 ∷ 2 then 4 ∷ 3 then 4 ∷ []))
 unfolding every someBelow has setOf within subset tableFrom goalsOf rowsOf number placeAfter goalSet listed _must_else_place_ counts header firstBad goal goals ordered
     ascends pair pairs ending readingOf versionOne reading knownIndependent independent waits
 waits-chain = record { fine = refl; rows = refl }
 
 -- In the clause of document 003 each goal waits for every earlier one.
-pub waits-four : Has four (asked (1 - 2 ∷ 1 - 3 ∷ 1 - 4 ∷ 2 - 3 ∷ 2 - 4 ∷ 3 - 4 ∷ []))
+pub waits-four : Has four (asked (1 then 2 ∷ 1 then 3 ∷ 1 then 4 ∷ 2 then 3 ∷ 2 then 4 ∷ 3 then 4 ∷ []))
 unfolding every someBelow has setOf within subset tableFrom goalsOf rowsOf number placeAfter goalSet listed _must_else_place_ counts header firstBad goal goals ordered
     ascends pair pairs ending readingOf versionOne reading knownIndependent independent waits
 waits-four = record { fine = refl; rows = refl }
@@ -74,7 +74,7 @@ waits-shared = record { fine = refl; rows = refl }
 annotations
     : (mel four ≡ bytes "(ground(v0)=>1&2),(indep(v0,v1),indep(v0,v2)=>3&4)")
     × (mel shared ≡ bytes "(1&2)")
-unfolding someBelow has decimal only joinFrom some number placeAfter goalSet listed knownIndependent S.goal S.someGoal S.thoseFrom S.goalsFrom S.occurs S.shared
+unfolding someBelow has decimal only joinFrom nonEmpty number placeAfter goalSet listed knownIndependent S.goal S.someGoal S.thoseFrom S.goalsFrom S.occurs S.shared
     S.across S.firstIn S.met S.boundary S.largest S.start S.stagesTo S.stages S.groundCheck S.indepCheck S.indepsFrom S.checks S.checkText S.checksFrom S.arrowIf
     S.goalsText S.stageText S.stagesText S.melText clauseOf mel
 annotations = (refl, refl)

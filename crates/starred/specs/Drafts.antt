@@ -44,14 +44,14 @@ clause v head ground sets pairs =
     bytes "LFJ" ++ (0 ∷ 1 ∷ length sets ∷ v ∷ length pairs / 2 ∷ set head) ++ set ground ++ goals sets ++ pairs
 
 -- a wait of goal j for goal i
-infix 70 _-_
+infix 70 _then_
 pub data Wait : Type 0 where
-  _-_ : ℕ → ℕ → Wait
+  _then_ : ℕ → ℕ → Wait
 
 -- the waits of a list as a relation
 abbrev pub asked : List Wait → ℕ → ℕ → Bool
 asked [] i j = false
-asked ((a - c) ∷ l) i j = (eqb i a && eqb j c) || asked l i j
+asked ((a then c) ∷ l) i j = (eqb i a && eqb j c) || asked l i j
 
 -- the record b is accepted, and W are its waits
 pub record Has (b : List ℕ) (W : ℕ → ℕ → Bool) : Type 0 where
@@ -61,7 +61,7 @@ pub record Has (b : List ℕ) (W : ℕ → ℕ → Bool) : Type 0 where
 -- the variables of goal g: the wait k gives variable k to its two goals
 abbrev held : ℕ → ℕ → List Wait → ℕ
 held g k [] = 0
-held g k ((i - j) ∷ l) = cond (eqb g i || eqb g j) (2 ^ k) 0 + held g (suc k) l
+held g k ((i then j) ∷ l) = cond (eqb g i || eqb g j) (2 ^ k) 0 + held g (suc k) l
 
 -- the pairs of x with each of a list, and all pairs of a list
 abbrev pairsWith : ℕ → List ℕ → List ℕ
@@ -130,7 +130,7 @@ shared = clause 1 1 1 (1 ∷ 1 ∷ []) []
 
 -- two goals, 1 before 2
 abbrev pub two : List ℕ
-two = waiting 2 (1 - 2 ∷ [])
+two = waiting 2 (1 then 2 ∷ [])
 
 unfoldable pub drafts : List Draft
 drafts =
@@ -139,13 +139,13 @@ drafts =
     ∷ reads (read (waiting 0 [])) gives reads (noRecord 4 5)
     ∷ reads (read (waiting 33 [])) gives reads (noRecord 4 5)
     -- "Three goals, waits 1-3", "waits 1-2 and 2-3", "no waits"
-    ∷ formOf (waiting 3 (1 - 3 ∷ [])) gives formText "(1,3)&2"
-    ∷ formOf (waiting 3 (1 - 2 ∷ 2 - 3 ∷ [])) gives formText "1,2,3"
+    ∷ formOf (waiting 3 (1 then 3 ∷ [])) gives formText "(1,3)&2"
+    ∷ formOf (waiting 3 (1 then 2 ∷ 2 then 3 ∷ [])) gives formText "1,2,3"
     ∷ formOf (waiting 3 []) gives formText "1&2&3"
     -- "Waits 1-3, 2-3, 2-4: refusal 13 with 1 2 3 4", "Waits 1-3, 1-4, 2-4: refusal 13 with 2 1 4 3", "Waits 1-3, 2-3, 2-4, 3-4"
-    ∷ formOf (waiting 4 (1 - 3 ∷ 2 - 3 ∷ 2 - 4 ∷ [])) gives noForm 1 2 3 4
-    ∷ formOf (waiting 4 (1 - 3 ∷ 1 - 4 ∷ 2 - 4 ∷ [])) gives noForm 2 1 4 3
-    ∷ formOf (waiting 4 (1 - 3 ∷ 2 - 3 ∷ 2 - 4 ∷ 3 - 4 ∷ [])) gives formText "(1&2),3,4"
+    ∷ formOf (waiting 4 (1 then 3 ∷ 2 then 3 ∷ 2 then 4 ∷ [])) gives noForm 1 2 3 4
+    ∷ formOf (waiting 4 (1 then 3 ∷ 1 then 4 ∷ 2 then 4 ∷ [])) gives noForm 2 1 4 3
+    ∷ formOf (waiting 4 (1 then 3 ∷ 2 then 3 ∷ 2 then 4 ∷ 3 then 4 ∷ [])) gives formText "(1&2),3,4"
     -- the clause of document 003
     ∷ formOf four gives formText "1,2,3,4"
     ∷ melOf four gives melText "(ground(v0)=>1&2),(indep(v0,v1),indep(v0,v2)=>3&4)"

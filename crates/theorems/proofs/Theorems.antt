@@ -7,7 +7,7 @@
 --     goal text     calls-agree: the part is the one that the other call names
 use mathlib.Core.Path.{_≡_, refl, sym, ap, _∙_, subst}
 use mathlib.Core.Bool.{Bool, true}
-use mathlib.Core.List.{List, _++_}
+use mathlib.Core.List.{List, [], _++_}
 use mathlib.Core.Logic.{_↔_}
 use mathlib.Core.Option.{Option, none, some}
 use Prim.Native.Nat.{ℕ, _≤_, _<_}
@@ -37,7 +37,7 @@ use Rattle.order.proofs.Theorems.{before-is, before-order, before-closed}
 use Rattle.form.specs.Form.{Plan, noForm, written, settled, plan}
 use Rattle.form.specs.Demand.{HasForm, Demand}
 use Rattle.form.proofs.Plans.{settled-none, settled-some}
-use Rattle.form.proofs.Theorems.{settles, the-form, demand}
+use Rattle.form.proofs.Theorems.{settles, the-form, found-thirteen, demand}
 use Rattle.grammar.specs.Check.{same, differs, firstDiffer, verdict, judged, checked}
 use Rattle.grammar.proofs.Differences.{same-order}
 use Rattle.grammar.proofs.Written.{written-read}
@@ -120,7 +120,7 @@ module _ (b : List ℕ) (w : WellFormed b) where
       go none e =
           settles b w ∙ settled-none (text (form R n)) e
           ∙ ap (λ (x : Expr). written (text x)) (form-unique R n (form R n) f (the-form b w e) (house-form f h))
-      go (some q) e = absurd (demand-3 .exactly .0 (q, settles b w ∙ settled-some (text (form R n)) q e) f (h .expresses))
+      go (some q) e = absurd (demand-3 .exactly [] .0 (found-thirteen b w [] q e) f (h .expresses))
 
   -- ---- T9: the order operation gives the graph of the record's order, which has i before j exactly if a chain of waits leads from i to j,
   pub order-graph : orderGraph b ≡ graphOf n R

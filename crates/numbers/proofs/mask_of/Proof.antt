@@ -8,19 +8,15 @@ use Rattle.numbers.proofs.mask_of.Statement.{statement}
 use Rattle.numbers.proofs.mask_of.Tie as tie
 use Rattle.numbers.proofs.mask_of.Reads as reads
 use Rattle.numbers.proofs.mask_of.Lts as lts
-use Rattle.sets.proofs.single32.Reads as single32-reads
 
-sub-single32 : tie.Need-sub-single32
-sub-single32 c = search needs
-
-single32-requires : tie.Need-single32-requires
-single32-requires c κs = search needs
+single-requires : tie.Need-single-requires
+single-requires c κs = search needs
 
 returns : tie.Need-returns
-returns c = c .single32 .ensures ∙ sym (ap (λ b. cond {A = ℕ} b (single (c .before .before .args .v - 1)) 0) (le-leb (c .before .before .args .v) 32 (c .before .if1 .taken)))
+returns c = c .single .ensures ∙ sym (ap (λ b. cond {A = ℕ} b (single (c .before .before .args .v - 1)) 0) (le-leb (c .before .before .args .v) 32 (c .before .if1 .taken)))
 
 returns-2 : tie.Need-returns-2
 returns-2 c = sym (ap (λ b. cond {A = ℕ} b (single (c .before .args .v - 1)) 0) (lt-leb (c .before .args .v) 32 (c .if1 .left)))
 
 pub mask-of-spec : {M : Type 1} → statement M
-mask-of-spec = tie.close (tie.spec sub-single32 single32-requires returns returns-2)
+mask-of-spec = tie.close (tie.spec single-requires returns returns-2)

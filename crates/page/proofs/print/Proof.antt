@@ -21,7 +21,7 @@ slice-aggregate-lines c = search needs
 
 slice-aggregate-write-all : tie.Need-slice-aggregate-write-all
 slice-aggregate-write-all c =
-    let w = c .before .before .before .before .before .write .ensures .0 in
+    let w = c .before .before .before .before .before .write .ensures .1 .0 in
     sym (length-take-le _ _ (le-trans (w .top-to) (w .end-to)))
 
 write-all-requires : tie.Need-write-all-requires
@@ -31,7 +31,7 @@ slice-reshare-prefix-write-all : tie.Need-slice-reshare-prefix-write-all
 slice-reshare-prefix-write-all c = search needs
 
 slice-aggregate-write-all-2 : tie.Need-slice-aggregate-write-all-2
-slice-aggregate-write-all-2 c = sym (length-take-le _ _ (c .before .before .before .before .before .before .before .write .ensures .0 .mel-to))
+slice-aggregate-write-all-2 c = sym (length-take-le _ _ (c .before .before .before .before .before .before .before .write .ensures .1 .0 .mel-to))
 
 write-all-requires-2 : tie.Need-write-all-requires-2
 write-all-requires-2 c κs = search needs

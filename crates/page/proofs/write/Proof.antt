@@ -14,7 +14,7 @@ use Rattle.page.specs.Sheet.{line, refusedText}
 use Rattle.page.specs.Parts.{acceptedTop, melShown, melRest}
 use Rattle.page.proofs.Lines.{digits, refused-length}
 use Rattle.page.proofs.Mel.{shown-stands}
-use Rattle.page.proofs.Whole.{top-limit, lines-fine, lines-refused, sheet-fine, sheet-refused, shows}
+use Rattle.page.proofs.Whole.{top-limit, lines-fine, lines-refused, parts-fine, parts-refused, sheet-fine, sheet-refused, shows}
 use borrow.Author.Needs.{needs}
 use Rattle.page.proofs.write.Statement.{statement}
 use Rattle.page.proofs.write.Tie as tie
@@ -67,9 +67,14 @@ returns c =
     let k = c .before .before .before .before .before .before .before .size-of .ensures .0 in
     let t = line (refusedText (x .number) (x .place)) in
     let wrote = recast (ap (λ (n : ℕ). line (refusedText n (x .place))) k) (then (c .before .before .before .before .before .before .put-refused .ensures) (c .before .before .put-byte .ensures)) in
+    let ends : c .before .before .put-byte .result ≡ length t = omega (arith, wrote .place) in
+    let whole = recast (lines-refused b x e) wrote in
     let limit : length t ≤ 64 = omega (arith, length-append (refusedText (x .number) (x .place)) (10 ∷ []), ap (λ (n : ℕ). length (refusedText n (x .place))) k, short (c .before .before .before .before .before .before .before)) in (
-      shows b _ t [] [] (recast (sym (append-nil t)) wrote) (omega (arith, ap length (append-nil t), limit, s .pre .0)) (omega (arith, wrote .place)) refl zero-le (sheet-refused b x e),
-      (recast (lines-refused b x e) wrote, refused-buffer b _ x e),
+      parts-refused b x e _ ends refl (omega (arith, whole .place)),
+      (
+        shows b _ t [] [] (recast (sym (append-nil t)) wrote) (omega (arith, ap length (append-nil t), limit, s .pre .0)) ends refl zero-le (sheet-refused b x e),
+        (whole, refused-buffer b _ x e),
+      ),
     )
 
 same-length-2 : tie.Need-same-length-2
@@ -86,12 +91,17 @@ returns-2 c =
     let w = fine-well-formed b e in
     let top = c .before .before .before .before .before .before .before .before .before .put-top .ensures in
     let m = c .before .before .before .before .put-mel .ensures in
+    let ends : c .before .before .before .before .put-mel .result .top ≡ length (acceptedTop b) = omega (arith, m .0, top .place) in
     let wrote = then top (m .1 .1 .1 .0) in
-    let held = shown-stands b w _ (s .pre .1) in (
-      shows b _ (acceptedTop b) (melShown (mel b)) (melRest (mel b)) wrote
-          (omega (arith, length-append (acceptedTop b) (melRest (mel b)), top-limit b w, top .place, m .1 .1 .1 .0 .place, m .1 .1 .0, s .pre .0)) (omega (arith, m .0, top .place))
-          (ap₂ take (m .1 .0) (m .1 .1 .1 .1) ∙ held .0) (omega (arith, m .1 .0, ap length (m .1 .1 .1 .1), held .1)) (sheet-fine b e),
-      (recast (lines-fine b e) wrote, m .1 .1 .1 .1),
+    let whole = recast (lines-fine b e) wrote in
+    let held = shown-stands b w (now (s .args .text)) (s .pre .1) in (
+      parts-fine b e _ ends (m .1 .0) (omega (arith, whole .place)),
+      (
+        shows b _ (acceptedTop b) (melShown (mel b)) (melRest (mel b)) wrote
+            (omega (arith, length-append (acceptedTop b) (melRest (mel b)), top-limit b w, top .place, m .1 .1 .1 .0 .place, m .1 .1 .0, s .pre .0)) ends
+            (ap₂ take (m .1 .0) (m .1 .1 .1 .1) ∙ held .0) (omega (arith, m .1 .0, ap length (m .1 .1 .1 .1), held .1)) (sheet-fine b e),
+        (whole, m .1 .1 .1 .1),
+      ),
     )
 
 pub write-spec : {M : Type 1} → statement M

@@ -6,7 +6,7 @@ use native.Mathlib.Omega.{arith}
 use denote.Ref.{now}
 use lib.Dec.{ltb}
 use lib.ListN.{length, length-append}
-use Rattle.text.specs.Text.{some}
+use Rattle.text.specs.Text.{nonEmpty}
 use Rattle.text.proofs.Laws.{then, recast, moved, arrive}
 use Rattle.stages.specs.Mel as W
 use Rattle.stage_texts.specs.Texts as X
@@ -20,7 +20,7 @@ use Rattle.stage_texts.proofs.put_stage.Tie as tie
 several : (c : tie.Else1) →
     let a = c .before .before .before .before .before .before .args in
     let t = X.checksText (a .head) (now (a .sets)) (now (a .grounds)) (now (a .rows)) false (a .p) (a .q) in
-    (40 ∷ []) ++ t ++ W.arrowIf (some t) ++ W.goalsText (a .p) (a .q) ++ (41 ∷ []) ≡ X.stageText (a .head) (now (a .sets)) (now (a .grounds)) (now (a .rows)) (a .p) (a .q)
+    (40 ∷ []) ++ t ++ W.arrowIf (nonEmpty t) ++ W.goalsText (a .p) (a .q) ++ (41 ∷ []) ≡ X.stageText (a .head) (now (a .sets)) (now (a .grounds)) (now (a .rows)) (a .p) (a .q)
 several c = stage-parts _ _ _ _ _ _ (λ e. omega (arith, e, c .if1 .left))
 
 room : (c : tie.Else1) →
@@ -36,7 +36,7 @@ end c = omega (arith, checks-opened _ _ _ _ _ _ (c .before .before .before .befo
 
 any : (c : tie.After-put-checks) →
     let a = c .before .before .before .before .before .before .before .before .args in
-    ltb (a .at) (c .put-checks .result) ≡ some (X.checksText (a .head) (now (a .sets)) (now (a .grounds)) (now (a .rows)) false (a .p) (a .q))
+    ltb (a .at) (c .put-checks .result) ≡ nonEmpty (X.checksText (a .head) (now (a .sets)) (now (a .grounds)) (now (a .rows)) false (a .p) (a .q))
 any c = moved (c .put-checks .ensures) ∙ checks-some _ _ _ _ _ _
 
 add-if1 : tie.Need-add-if1
