@@ -100,6 +100,11 @@ module _ (prior : List ℕ) (k : Bool) (rest : ℕ) where
         subst (λ (i : ℕ). count i < count before) (sym z) (try-less l o w n),
       )
 
+-- of a group the lowest goal starts
+pub lowest-starts : (R : ℕ → ℕ → Bool) {k : Bool} {m x : ℕ} → k ≡ false → x ≡ first 32 m → Starts R k (Has m) (suc x)
+lowest-starts R {k} {m} {x} n e =
+    (λ _ i p. subst (λ (y : ℕ). suc y ≤ i) (sym e) (lowest-least 32 m i p), λ t. clash t n)
+
 -- the two kinds
 pub earlier-sequence : (prior : List ℕ) (k : Bool) (rest x : ℕ) → k ≡ true → meet (getD prior x 0) rest ≡ earlier prior k rest x
 unfolding earlier

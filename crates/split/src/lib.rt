@@ -5,6 +5,7 @@ ghost use Prim.Native.Nat.{suc, _+_, _^_, _<_};
 ghost use lib.ListN.{length};
 ghost use denote.Ref.{now};
 ghost use Rattle.graph.specs.Graph.{ahead, behind};
+ghost use Rattle.sets.specs.Sets.{first};
 ghost use Rattle.text.specs.Text.{Wrote};
 ghost use Rattle.expression.specs.Arrange.{Strict};
 ghost use Rattle.expression.specs.Split.{Component, Starts};
@@ -110,6 +111,33 @@ fn member(after: &[u32; 32], prior: &[u32; 32], k: bool, rest: u32) -> Part
     Part { start: x, goals }
 }
 
+// The same, where `found` is the component of the set's lowest goal, x + 1, in a group: of a group's goals all together it is the first member already.
+fn next(
+    after: &[u32; 32],
+    prior: &[u32; 32],
+    k: bool,
+    rest: u32,
+    set: u32,
+    x: usize,
+    found: u32,
+) -> Part
+    requires { ⌜ Strict (behind (now prior)) (Has rest) × Turned (now after) (now prior) rest × ((g : _) × Has rest g) ⌝ }
+    requires { ⌜ (x < 32) × (x ≡ first 32 set) × Component (ahead (now after)) false (Has set) (suc x) (Has found) ⌝ }
+    ensures { λ r. ⌜ (r .start < 32) × Has rest (suc (r .start)) ⌝ }
+    ensures { λ r. ⌜ Starts (behind (now (prior .entry))) k (Has rest) (suc (r .start)) ⌝ }
+    ensures { λ r. ⌜ Component (ahead (now (after .entry))) k (Has rest) (suc (r .start)) (Has (r .goals)) ⌝ }
+{
+    if rest == set {
+        if !k {
+            return Part {
+                start: x,
+                goals: found,
+            };
+        }
+    }
+    member(after, prior, k, rest)
+}
+
 // The byte between two members.
 fn mark(k: bool) -> u8
     ensures { λ r. ⌜ r ≡ T.mark k ⌝ }
@@ -133,12 +161,13 @@ pub fn put_form(
     if sets::single32(x) == set {
         return text::put_number(out, at, (x + 1) as u8);
     }
-    let k = component(after, prior, false, set, x) == set;
+    let found = component(after, prior, false, set, x);
+    let k = found == set;
     let sep = mark(k);
     let mut o = text::put_if(out, at, b'(', nested);
     let mut rest = set;
     while rest != 0 {
-        let m = member(after, prior, k, rest);
+        let m = next(after, prior, k, rest, set, x, found);
         let c = m.goals;
         o = put_form(out, o, after, prior, c, true);
         rest = sets::without32(rest, c);

@@ -26,7 +26,7 @@ use Rattle.sets.proofs.single32.Reads as single32-reads
 use Rattle.sets.proofs.without32.Reads as without32-reads
 use Rattle.split.proofs.component.Reads as component-reads
 use Rattle.split.proofs.mark.Reads as mark-reads
-use Rattle.split.proofs.member.Reads as member-reads
+use Rattle.split.proofs.next.Reads as next-reads
 use Rattle.text.proofs.put_if.Reads as put-if-reads
 use Rattle.text.proofs.put_number.Reads as put-number-reads
 use Rattle.split.proofs.+put_form.{statement}
@@ -44,13 +44,13 @@ put-form-below t =
 
 -- the callees' contracts
 abbrev put-form-K : ℕ → put-form-lts.Claims
-put-form-K t = (first32-reads.Asked, first32-reads.Learnt, single32-reads.Asked, single32-reads.Learnt, put-number-reads.Asked, put-number-reads.Learnt, component-reads.Asked, component-reads.Learnt, mark-reads.Asked, mark-reads.Learnt, put-if-reads.Asked, put-if-reads.Learnt, member-reads.Asked, member-reads.Learnt, put-form-below t, put-form.Post, without32-reads.Asked, without32-reads.Learnt)
+put-form-K t = (first32-reads.Asked, first32-reads.Learnt, single32-reads.Asked, single32-reads.Learnt, put-number-reads.Asked, put-number-reads.Learnt, component-reads.Asked, component-reads.Learnt, mark-reads.Asked, mark-reads.Learnt, put-if-reads.Asked, put-if-reads.Learnt, next-reads.Asked, next-reads.Learnt, put-form-below t, put-form.Post, without32-reads.Asked, without32-reads.Learnt)
 
 abbrev put-form-Inv-loop : put-form-lts.InvT-loop
-put-form-Inv-loop out₀ at after prior set nested x k sep o₀ rest₀ out o rest = Going after k nested set o₀ out₀ rest o out
+put-form-Inv-loop out₀ at after prior set nested x found k sep o₀ rest₀ out o rest = Going after k nested set o₀ out₀ rest o out
 
 abbrev put-form-μ-loop : put-form-lts.MeasureT-loop
-put-form-μ-loop out₀ at after prior set nested x k sep o₀ rest₀ out o rest = count rest
+put-form-μ-loop out₀ at after prior set nested x found k sep o₀ rest₀ out o rest = count rest
 
 -- the lowest goal, less one
 under : (t : ℕ) (c : put-form-lts.After-first32 (put-form-K t) (put-form-at t) put-form.Post put-form-Inv-loop put-form-μ-loop) → c .first32 .result < 32
@@ -103,17 +103,17 @@ rest-ordered : (t : ℕ) (c : put-form-lts.In-loop (put-form-K t) (put-form-at t
 rest-ordered t c = let g = rest-some t c in ordered-part _ _ (c .before .loop .inv .part) (g .0) (g .1) (c .before .before .before .before .before .before .before .before .before .before .before .before .pre .1 .0)
 
 -- one turn
-a-step : (t : ℕ) (c : put-form-lts.After-member (put-form-K t) (put-form-at t) put-form.Post put-form-Inv-loop put-form-μ-loop) →
+a-step : (t : ℕ) (c : put-form-lts.After-next (put-form-K t) (put-form-at t) put-form.Post put-form-Inv-loop put-form-μ-loop) →
     let a = c .before .before .before .before .before .before .before .before .before .before .before .before .before .args in
     let l = c .before .before .loop in
     Step (a .after .now) (a .prior .now) (eqb (c .before .before .before .before .before .before .before .before .component .result) (a .set)) (a .nested) (a .set) (c .before .before .before .before .before .put-if .result) (c .before .before .before .before .before .put-if .last .0)
-    (l .rest) (l .o) (l .out) (c .member .result .goals)
+    (l .rest) (l .o) (l .out) (c .next .result .goals)
 a-step t c =
     let s = c .before .before .before .before .before .before .before .before .before .before .before .before .before in
     let l : s .args .set < 2 ^ 32 = search needs in
     let r = part-lt 32 _ _ (c .before .before .loop .inv .part) l in
     let j = joins t (c .before .before .before .before .before .before .before .before) in
-    let f = c .member .ensures in
+    let f = c .next .ensures in
     step _ _ _ _ _ l r (s .pre .1 .0) (j .0) (j .1) (j .2) (c .before .before .loop .inv) _ _ (f .0 .1) (f .1 .0) (f .1 .1)
 
 put-form-first32-requires : (t : ℕ) → put-form-lts.Need-first32-requires (put-form-K t) (put-form-at t) put-form.Post put-form-Inv-loop put-form-μ-loop
@@ -159,8 +159,12 @@ put-form-loop-holds t c =
     let j = joins t (c .before .before .before .before .before) in
     go-start _ (s .args .prior .now) _ _ _ (j .0) (j .1) (j .2) (form-of _ (s .args .prior .now) _ l (s .pre .1 .0)) _ _
 
-put-form-member-requires : (t : ℕ) → put-form-lts.Need-member-requires (put-form-K t) (put-form-at t) put-form.Post put-form-Inv-loop put-form-μ-loop
-put-form-member-requires t c κs = (ordered-behind _ _ (rest-ordered t c), rest-ordered t c .turned, rest-some t c)
+put-form-next-requires : (t : ℕ) → put-form-lts.Need-next-requires (put-form-K t) (put-form-at t) put-form.Post put-form-Inv-loop put-form-μ-loop
+put-form-next-requires t c κs =
+    let f = c .before .before .before .before .before .before .before in (
+      (ordered-behind _ _ (rest-ordered t c), rest-ordered t c .turned, rest-some t c),
+      (under t (f .before .before .before), f .before .before .before .first32 .ensures, f .component .ensures),
+    )
 
 put-form-put-form-requires : (t : ℕ) → put-form-lts.Need-put-form-requires (put-form-K t) (put-form-at t) put-form.Post put-form-Inv-loop put-form-μ-loop
 put-form-put-form-requires t c κs =
@@ -212,7 +216,7 @@ pub +put-form-spec : {M : Type 1} → statement M
     (put-form-mark-requires t)
     (put-form-put-if-requires t)
     (put-form-loop-holds t)
-    (put-form-member-requires t)
+    (put-form-next-requires t)
     (put-form-put-form-requires t)
     (put-form-without32-requires t)
     (put-form-put-if-requires-2 t)
