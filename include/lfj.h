@@ -76,7 +76,7 @@ uint64_t lfj_form_length(const uint8_t *record, size_t n);
 /*
  * Writes the MEL annotation into the first bytes of `out` and keeps the rest.
  * Accepted: its length. Refused by 12 if `room` is below the length, which is the
- * place; so a call with room 0 asks for the length. It can be above 190,000.
+ * place; so a call with room 0 asks for the length. The longest that we know of has 192,127 bytes.
  */
 uint64_t lfj_mel(const uint8_t *record, size_t n, uint8_t *out, size_t room);
 

@@ -7,27 +7,29 @@ CASES are files of the conformance kit's format, `QUESTION = ANSWER` a line (kit
 The answers of drafts.txt come from the paper's text (tools/paper_drafts.py), those of base.txt from an independent annotator, those of
 the other files from the hand-written one of rust/compare. The questions go to crates/drafts/data/cases.txt, the answers, and nothing
 that the program itself printed, to crates/drafts/stdout. A question about the length estimate keeps its answer's bounds, between
-which the program's answer must lie.
+which the program's answer must lie. A question that passes the program's arrays is an error.
 """
 import sys
+from kit_cases import bytes_of, cases, fail, write_all
+
+# the lengths of the arrays of crates/drafts/src/main.rt
+LINE, RECORD, TEXT, ROOM = 32768, 4096, 1024, 196608
 
 questions, answers = [], []
-for path in sys.argv[1:]:
-    for number, line in enumerate(open(path, encoding="ascii"), 1):
-        line = line.rstrip("\n")
-        if not line or line.startswith("#"):
-            continue
-        question, mark, answer = line.partition(" = ")
-        if not mark:
-            sys.exit(f"{path}:{number}: no ` = ` in this line")
-        if len(question) > 32000:
-            sys.exit(f"{path}:{number}: the question is longer than the program's line")
-        questions.append(line if question.startswith("length ") else question)
-        answers.append(answer)
-if not questions:
-    sys.exit("no cases: name the files, as in tools/expectations.py kit/cases/drafts.txt kit/vectors/base.txt")
-with open("crates/drafts/data/cases.txt", "w", encoding="ascii") as f:
-    f.write("\n".join(questions) + "\n")
-with open("crates/drafts/stdout", "w", encoding="ascii") as f:
-    f.write("\n".join(answers) + "\n")
+for place, question, answer in cases(sys.argv[1:]):
+    operation, _, record, *rest = question.split()
+    # of a sheet's input no more than the program's 4,096 bytes is read
+    if len(bytes_of(record)) > RECORD and operation != "sheet":
+        fail(f"{place}: the record is longer than {RECORD} bytes")
+    if operation == "check" and len(bytes_of(rest[0])) > TEXT:
+        fail(f"{place}: the text is longer than {TEXT} bytes")
+    if operation in ("form", "mel") and int(rest[0]) > ROOM:
+        fail(f"{place}: the buffer is longer than {ROOM} bytes")
+    line = f"{question} = {answer}" if operation == "length" else question
+    if len(line) >= LINE:
+        fail(f"{place}: the question is longer than {LINE - 1} bytes")
+    questions.append(line)
+    answers.append(answer)
+text = lambda lines: "".join(line + "\n" for line in lines).encode("ascii")
+write_all({"crates/drafts/data/cases.txt": text(questions), "crates/drafts/stdout": text(answers)})
 print(f"{len(questions)} cases")

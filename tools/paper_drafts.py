@@ -1,16 +1,18 @@
 #!/usr/bin/env python3
 """Writes the drafts that the paper prints as cases of the conformance kit's format (kit/README.md).
 
-    tools/paper_drafts.py PAPER READINGS > kit/cases/drafts.txt
+    tools/paper_drafts.py PAPER        from anywhere; writes kit/cases/drafts.txt
 
-PAPER is 01-scope.md, READINGS the settled readings with the drafts that the paper lacks. Questions and answers are both taken from
-their text: a draft that the script cannot read is an error, and so is a piece of a draft that it would pass over. Where a draft names
-no answer ("the first" of several sets of four goals) the answer is searched for by the paper's words. A draft given by waits is a
-record with one variable a goal, in which the pairs of goals that do not wait are listed.
+PAPER is 01-scope.md; the drafts of tools/more_drafts.md follow its own. Questions and answers are both taken from their text: a draft
+that the script cannot read is an error, and so is a piece of a draft that it would pass over. Where a draft names no answer ("the first
+four" of several) the answer is searched for by the paper's words. A draft given by waits is a record with one variable a goal, in which
+the pairs of goals that do not wait are listed.
 """
 import itertools
+import os
 import re
 import sys
+from kit_cases import fail, read_text, write_all
 
 WORDS = {"one": 1, "two": 2, "three": 3, "four": 4, "five": 5}
 ROOM = 400
@@ -52,7 +54,7 @@ def first_four(n, waits):
         among = {(x, y) for x, y in before if {x, y} <= {a, b, c, d}}
         if among == {(a, c), (b, c), (b, d)}:
             return f"{a} {b} {c} {d}"
-    sys.exit("a clause that was to be without a form has one")
+    fail("a clause that was to be without a form has one")
 
 
 def hexed(data):
@@ -89,8 +91,11 @@ def padded(n, length):
     """The goals 1 to n as one group, with spare parentheses up to the length."""
     parts = [str(g) for g in range(1, n + 1)]
     for at in itertools.cycle(range(n)):
-        if len("&".join(parts)) == length:
-            return "&".join(parts)
+        text = "&".join(parts)
+        if len(text) == length:
+            return text
+        if len(text) > length:
+            fail(f"a group of {n} goals has no text of {length} bytes")
         parts[at] = f"({parts[at]})"
 
 
@@ -98,7 +103,7 @@ def place_of(paper, start):
     """The place that a sentence of "What each operation turns down" names for a refusal."""
     found = re.search(re.escape(start) + r"[^;.()]*\((\d+)\)", paper)
     if not found:
-        sys.exit(f"the paper names no place for: {start}")
+        fail(f"the paper names no place for: {start}")
     return int(found[1])
 
 
@@ -113,7 +118,8 @@ def one_draft(draft, paper, last):
             rest = rest[: found.start()] + rest[found.end() :]
         return found
 
-    rest = re.sub(r"\([^()`]*\b(would break|on the closed graph)\b[^()`]*\)", "", rest)
+    # a reason, as a sentence of its own in parentheses
+    rest = re.sub(r" \([A-Z][^()`]*\.\)$", "", rest)
     data = last
     # clauses given by their variable sets
     found = take(r"Head (\{[\d,]*\})(?:, ground (\{[\d,]*\}))?, goals ((?:\{[\d,]*\}(?:, )?)+)(?:no facts)?: ")
@@ -137,7 +143,7 @@ def one_draft(draft, paper, last):
         check_case(two, found[1], f"refused {found[2]} {found[3]}")
     # clauses given by their waits
     clause = r"(?:(\w+) goals?, )?(?:no waits|[Ww]aits ((?:\d+-\d+(?:, | and )?)+))(?: of (\w+)(?: goals)?)?: "
-    for found in iter(lambda: take(clause + r"(?:`([^`]*)`|refusal 13 with ([\d ]*\d))"), None):
+    for found in iter(lambda: take(clause + r"(?:`([^`]*)`|refusal 13 with ([\d ]*\d|the first four))"), None):
         waits = pairs_in(found[2] or "")
         word = (found[1] or found[3] or "").lower()
         n = WORDS[word] if word else max(map(max, waits))
@@ -145,7 +151,7 @@ def one_draft(draft, paper, last):
         if found[4]:
             text_case("form", data, found[4])
         else:
-            no_form(data, found[5])
+            no_form(data, first_four(n, waits) if found[5] == "the first four" else found[5])
     found = take(r"One goal: `([^`]*)`")
     if found:
         text_case("form", waiting(1, []), found[1])
@@ -165,47 +171,51 @@ def one_draft(draft, paper, last):
         text = padded(10, int(found[1]))
         check_case(waiting(10, []), text, "same")
         check_case(waiting(10, []), text + ")" * (int(found[2]) - len(text)), f"refused {found[3]} {place_of(paper, found[3] + ' text empty')}")
-    found = take(r"(\d+) bytes of expression that are accepted need n even and at least (\d+) \(parity\); pad with spare parentheses")
+    found = take(r'Texts of (\d+) bytes for (\d+) to (\d+) goals, in steps of (\d+), one group with spare parentheses: "same"')
     if found:
-        # with 24 goals and none waiting there would be more than 255 pairs
-        for n in range(int(found[2]), 24, 2):
+        for n in range(int(found[2]), int(found[3]) + 1, int(found[4])):
             check_case(waiting(n, []), padded(n, int(found[1])), "same")
-    if take(r'An order with several N, so that "the first" is tested'):
-        for n, waits in [(6, [(1, 4), (2, 4), (2, 5), (3, 5), (3, 6)]), (8, [(3, 7), (4, 7), (4, 8), (1, 5), (1, 6), (2, 6)])]:
-            no_form(waiting(n, waits), first_four(n, waits))
     if re.sub(r"as in document 003|[\s.,;]", "", rest):
-        sys.exit(f"not understood: {rest!r} of the draft: {draft}")
+        fail(f"not understood: {rest!r} of the draft: {draft}")
     return data
 
 
-def section(text, heading, level):
-    part = text.split(f"{level} {heading}\n", 1)[1]
-    return re.split(r"^#", part, maxsplit=1, flags=re.M)[0]
+def drafts_in(text):
+    return [line[2:].removeprefix("* ") for line in text.splitlines() if line.startswith("- ")]
 
 
-def main():
-    paper, readings = (open(path, encoding="utf-8").read() for path in sys.argv[1:3])
-    print("# The draft clauses that the paper prints, and the ones that it lacks; tools/paper_drafts.py takes them from its text.")
+def section(paper, heading):
+    found = re.search(rf"^## {heading}\n(.*?)(?=^#|\Z)", paper, re.S | re.M)
+    if not found:
+        fail(f"this paper has no section `{heading}`")
+    return found[1]
+
+
+def main(path):
+    root = os.path.join(os.path.dirname(os.path.abspath(__file__)), "..")
+    paper, more = read_text(path), read_text(os.path.join(root, "tools/more_drafts.md"))
     whole = re.search(r"Whole case, hexadecimal: (.*?); (\d+) bytes\. It prints:\s*```\n(.*?)```", paper, re.S)
+    if not whole:
+        fail(f"{path}: no whole case in this paper")
     data = bytes.fromhex("".join("".join(re.findall(r"`([^`]*)`", whole[1])).split()))
-    assert len(data) == int(whole[2])
-    print("\n# the whole case")
+    if len(data) != int(whole[2]):
+        fail(f"{path}: the whole case has {len(data)} bytes")
     case(f"sheet 0 {hexed(data)}", f"ok {hexed(whole[3].encode())}")
     for operation in ("form", "mel"):
         text_case(operation, data, re.search(f"^{operation} (.*)$", whole[3], re.M)[1])
-    print("\n".join(lines))
+    out = ["# The draft clauses that the paper prints, and the ones of tools/more_drafts.md; tools/paper_drafts.py takes them from their text."]
+    out += ["", "# the whole case"] + lines
     lines.clear()
     last = b""
-    drafts = section(paper, "Draft clauses to hold against it", "##") + section(readings, "Drafts that the paper lacks; run them too", "###")
-    for line in drafts.splitlines():
-        if line.startswith("- "):
-            draft = line[2:].removeprefix("* ")
-            last = one_draft(draft, paper, last)
-            print(f"\n# {draft}".replace("−", "-"))
-            print("\n".join(lines))
-            lines.clear()
+    for draft in drafts_in(section(paper, "Draft clauses to hold against it")) + drafts_in(more):
+        last = one_draft(draft, paper, last)
+        out += ["", f"# {draft}"] + lines
+        lines.clear()
+    write_all({os.path.join(root, "kit/cases/drafts.txt"): "".join(line + "\n" for line in out).encode("utf-8")})
+    print(f"{sum(' = ' in line for line in out)} cases")
 
 
-if len(sys.argv) != 3:
-    sys.exit(__doc__)
-main()
+if len(sys.argv) != 2:
+    print(__doc__, file=sys.stderr)
+    sys.exit(2)
+main(sys.argv[1])

@@ -8,26 +8,25 @@ paper, kit/cases/readings.txt and kit/vectors/base.txt. The expectation is the a
 never what the program printed: refusals 15 to 17 as they stand, and `read` for a text that got a verdict.
 """
 import sys
+from kit_cases import bytes_of, cases, fail, write_all
 
+# the length of the program's input array, and of the array of a text
+INPUT, TEXT = 65536, 1024
 
-def cases(paths):
-    for path in paths:
-        for line in open(path, encoding="ascii"):
-            question, _, answer = line.rstrip("\n").partition(" = ")
-            fields, said = question.split(), answer.split()
-            if fields[:1] != ["check"]:
-                continue
-            _, _, record, text = fields
-            if said[0] != "refused":
-                answer = "read"
-            elif int(said[1]) < 15:
-                continue
-            yield int(record[10:12], 16), text, answer
-
-
-if len(sys.argv) < 2:
-    sys.exit(__doc__)
-with open("crates/texts/stdin", "w", encoding="ascii") as given, open("crates/texts/stdout", "w", encoding="ascii") as wanted:
-    for goals, text, said in dict.fromkeys(cases(sys.argv[1:])):
-        given.write(f"{goals} {text}\n")
-        wanted.write(said + "\n")
+found = {}
+for place, question, answer in cases(sys.argv[1:]):
+    operation, _, record, *rest = question.split()
+    said = answer.split()
+    if operation != "check" or said[0] == "refused" and int(said[1]) < 15:
+        continue
+    if len(bytes_of(rest[0])) > TEXT:
+        fail(f"{place}: the text is longer than {TEXT} bytes")
+    goals = bytes_of(record)[5]
+    found[f"{goals} {rest[0]}\n"] = (answer if said[0] == "refused" else "read") + "\n"
+given, wanted = "".join(found).encode("ascii"), "".join(found.values()).encode("ascii")
+if not found:
+    fail("no case in these files asks for the check of a text")
+if len(given) > INPUT:
+    fail(f"the lines are longer than the program's {INPUT} bytes")
+write_all({"crates/texts/stdin": given, "crates/texts/stdout": wanted})
+print(f"{len(found)} texts")

@@ -8,8 +8,8 @@ use Rattle.graph.specs.declared.Graph.{Graph}
 use Rattle.refusal.specs.declared.Refusal.{Refusal}
 use Rattle.reading.specs.declared.Reading.{Reading}
 use Rattle.reading.specs.declared.Reading.the-variants.{Fine, Refused as Unread}
-use Rattle.record.specs.Fields.{goalCount}
-use Rattle.record.specs.Reading.{reading}
+use Rattle.fields.specs.Fields.{goalCount}
+use Rattle.reading.specs.Reading.{reading}
 use Rattle.expression.specs.Expr.{Expr}
 use Rattle.expression.specs.Expr
 use Rattle.grammar.specs.Reading.{Ruling, refusal, answer, readText}
@@ -64,8 +64,8 @@ module _ (b t : List ℕ) where
   unfolding Order.order
   text-compared n a g v q l e o h w =
       let (x, f) = was-read n (readText n t) (ap (λ (x : TextAnswer). x .outcome) (sym e) ∙ o) in
-      let ours : g .rows ≡ rowsOf n (before b) = ap (λ (x : Graph). x .rows) h ∙ ap (λ (m : ℕ). rowsOf m (before b)) (sym q) in
-      let theirs : a .graph .rows ≡ rowsOf n (Expr.before x) = ap (λ (x : TextAnswer). x .graph .rows) (e ∙ ap (textAnswer n) f) in
+      let ours : g .rows ≡ rowsOf 32 n (before b) = ap (λ (x : Graph). x .rows) h ∙ ap (λ (m : ℕ). rowsOf 32 m (before b)) (sym q) in
+      let theirs : a .graph .rows ≡ rowsOf 32 n (Expr.before x) = ap (λ (x : TextAnswer). x .graph .rows) (e ∙ ap (textAnswer n) f) in
       ap (λ (v : Verdict). saying (verdictOf v)) (w ∙ ap₂ (λ (y z : List ℕ). said (firstDiffer n (ahead y) (ahead z))) ours theirs)
       ∙ ap ruled (sym (checked-compared n (before b) t x l f))
       ∙ ap (λ (m : ℕ). ruled (checked m (before b) t)) q

@@ -10,8 +10,8 @@ use Rattle.graph.specs.Graph.{edgeless}
 use Rattle.graph.specs.declared.Graph.{Graph}
 use Rattle.reading.specs.declared.Reading.{Reading}
 use Rattle.reading.specs.declared.Reading.the-variants.{Fine, Refused as Unread}
-use Rattle.record.specs.Fields.{goalCount, textPlace, textLength}
-use Rattle.record.specs.Reading.{reading}
+use Rattle.fields.specs.Fields.{goalCount, textPlace, textLength}
+use Rattle.reading.specs.Reading.{reading}
 use Rattle.order.specs.Order
 use Rattle.order.specs.Order.{before}
 use Rattle.grammar.specs.Reading.{Ruling, refusal, answer}
@@ -55,17 +55,17 @@ pub record TextValues : Type 0 where
   pub number : ℕ
   pub place : ℕ
   pub start : ℕ
-  pub length : ℕ
+  pub size : ℕ
 
 abbrev pub noText : ℕ → ℕ → TextValues
-noText k p = record { number = k; place = p; start = 0; length = 0 }
+noText k p = record { number = k; place = p; start = 0; size = 0 }
 
 abbrev pub textValues : TextAnswer → TextValues
-textValues (At s) = record { number = 0; place = 0; start = s .place; length = s .length }
+textValues (At s) = record { number = 0; place = 0; start = s .place; size = s .size }
 textValues (NoText r) = noText (r .number) (r .place)
 
 abbrev pub textOf : List ℕ → ℕ → TextValues
-textOf b g = record { number = 0; place = 0; start = textPlace b g; length = textLength b g }
+textOf b g = record { number = 0; place = 0; start = textPlace b g; size = textLength b g }
 
 -- "with any refusal the part is the empty one at the record's start": start and length are 0
 unfoldable pub goalText : List ℕ → ℕ → TextValues

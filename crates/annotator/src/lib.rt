@@ -2,7 +2,7 @@
 //
 // `bytes` is the record. It and `text` are lent by `&` and stay as they were; `out` is lent by `&mut`. Reading the record starts every operation, so
 // refusals 1 to 11 come first, then those of its own in the sequence given. A refusal has its number and place, every other value zero (13 also has its
-// four goals), and changes no lent byte.
+// four goals), and changes no lent byte. The number is 0 exactly if the call is accepted (specs/Cases.antt).
 //
 // operation               accepted, it answers                                                 refuses              promised by
 // ----------------------  -------------------------------------------------------------------  -------------------  -----------------------------------------
@@ -81,7 +81,7 @@ pub struct OrderAnswer {
 // Where a goal's text stands in the record.
 pub struct Span {
     pub place: usize,
-    pub length: usize,
+    pub size: usize,
 }
 
 pub enum TextAnswer {
@@ -116,7 +116,7 @@ pub fn order(bytes: &[u8]) -> OrderAnswer
     ensures { λ r. ⌜ W.readValues (r .reading) ≡ W.read (now (bytes .entry)) ⌝ }
     ensures { λ r. ⌜ r .graph ≡ W.orderGraph (now (bytes .entry)) ⌝ }
 {
-    let mut goals = [0u64; 32];
+    let mut goals = [0u64; Graph::MAX];
     let mut pairs = [0u64; 64];
     match decoding::read(bytes, &mut goals, &mut pairs) {
         Reading::Fine => {
@@ -162,13 +162,6 @@ pub fn inside(g: usize, n: usize) -> bool
     (1 <= g) & (g <= n)
 }
 
-// The goal that a caller's number names.
-fn number_of(goal: u32) -> usize
-    ensures { λ r. ⌜ r ≡ goal ⌝ }
-{
-    goal as usize
-}
-
 // Where the text of a goal stands, or why there is none.
 pub fn find_text(bytes: &[u8], goal: u32) -> TextAnswer
     ensures { λ r. ⌜ W.textValues r ≡ W.goalText (now (bytes .entry)) goal ⌝ }
@@ -176,12 +169,13 @@ pub fn find_text(bytes: &[u8], goal: u32) -> TextAnswer
     match record::read(bytes) {
         Reading::Refused(r) => TextAnswer::NoText(r),
         Reading::Fine => {
-            let g = number_of(goal);
-            if inside(g, goal_count(bytes)) {
+            let g = goal as usize;
+            let n = goal_count(bytes);
+            if inside(g, n) {
                 let at = fields::goal_place(bytes, g);
                 let place = fields::text_at(bytes, at);
-                let length = fields::text_length_at(bytes, at);
-                return TextAnswer::At(Span { place, length });
+                let size = fields::text_length_at(bytes, at);
+                return TextAnswer::At(Span { place, size });
             }
             TextAnswer::NoText(Refusal {
                 number: 14,
@@ -193,12 +187,12 @@ pub fn find_text(bytes: &[u8], goal: u32) -> TextAnswer
 
 // The text of a goal, as the part of the lent record that holds it; with any refusal the empty part at the record's start.
 pub fn goal_text(bytes: &[u8], goal: u32) -> &[u8]
-    ensures { λ r. ⌜ PartAt (bytes .entry) (W.goalText (now (bytes .entry)) goal .start) (W.goalText (now (bytes .entry)) goal .length) r ⌝ }
+    ensures { λ r. ⌜ PartAt (bytes .entry) (W.goalText (now (bytes .entry)) goal .start) (W.goalText (now (bytes .entry)) goal .size) r ⌝ }
 {
     match find_text(bytes, goal) {
         TextAnswer::At(s) => {
             let a = s.place;
-            let e = a + s.length;
+            let e = a + s.size;
             &bytes[a..e]
         }
         TextAnswer::NoText(_) => &bytes[0..0],
@@ -206,7 +200,12 @@ pub fn goal_text(bytes: &[u8], goal: u32) -> &[u8]
 }
 
 // Checks an expression's text against the order of an accepted record, whose facts `goals` and `pairs` hold.
-fn check_text(bytes: &[u8], text: &[u8], goals: &[u64; 32], pairs: &[u64; 64]) -> CheckAnswer
+fn check_text(
+    bytes: &[u8],
+    text: &[u8],
+    goals: &[u64; Graph::MAX],
+    pairs: &[u64; 64],
+) -> CheckAnswer
     requires { ⌜ (F.goalCount (now bytes) ≤ 32) × Holding (now bytes) (now goals) (now pairs) ⌝ }
     ensures { λ r. ⌜ W.checkValues r ≡ W.ruled (checked (F.goalCount (now (bytes .entry))) (before (now (bytes .entry))) (now (text .entry))) ⌝ }
 {
@@ -229,7 +228,7 @@ fn check_text(bytes: &[u8], text: &[u8], goals: &[u64; 32], pairs: &[u64; 64]) -
 pub fn check(bytes: &[u8], text: &[u8]) -> CheckAnswer
     ensures { λ r. ⌜ W.checkValues r ≡ W.check (now (bytes .entry)) (now (text .entry)) ⌝ }
 {
-    let mut goals = [0u64; 32];
+    let mut goals = [0u64; Graph::MAX];
     let mut pairs = [0u64; 64];
     match decoding::read(bytes, &mut goals, &mut pairs) {
         Reading::Refused(r) => CheckAnswer::Rejected(r),

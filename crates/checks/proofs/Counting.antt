@@ -4,11 +4,12 @@ use mathlib.Core.Logic.{dite}
 use mathlib.Core.Bool.{Bool, true, false, cond}
 use mathlib.Core.List.{List, [], _∷_, map}
 use Prim.Native.Nat.{ℕ, zero, suc, _+_, _-_, _*_, _/_, _≤_, _<_, _^_}
-use native.Mathlib.Nat.{suc-add, suc-mul, mul-suc, mul-comm}
+use native.Mathlib.Nat.{add-comm, suc-add, suc-mul, mul-suc, mul-comm, div-le-self, le-refl, lt-of-le-of-lt}
 use native.Mathlib.Decide.{decLt}
 use native.Mathlib.Omega.{arith}
 use lib.ListN.{length, length-append}
 use Rattle.sets.specs.Sets.{has, count, membersFrom, members}
+use Rattle.sets.proofs.Laws.{has-above}
 use Rattle.sets.proofs.Members.{count-members, count-from}
 use Rattle.text.specs.Text.{decimal, joinFrom, only}
 use Rattle.text.proofs.Laws.{join-step, join-none, one-digit, two-digits}
@@ -17,6 +18,17 @@ use Rattle.checks.specs.Texts.{groundsText, rowText, numbersLength}
 use Rattle.checks.proofs.Lists.{item-step, checks-none, ground-length, indep-length}
 
 -- ---- the numbers of a set's members
+
+-- no member stands past the width
+none-from : (k i m : ℕ) → ((j : ℕ) → i ≤ j → has m j ≡ false) → membersFrom k i m ≡ []
+unfolding membersFrom
+none-from zero i m h = refl
+none-from (suc k) i m h = rw (h i (le-refl i)) (none-from k (suc i) m (λ j l. h j (omega arith)))
+
+wider : (w k i m : ℕ) → ((j : ℕ) → i + w ≤ j → has m j ≡ false) → membersFrom (w + k) i m ≡ membersFrom w i m
+unfolding membersFrom
+wider zero k i m h = let z : 0 + k ≡ k = omega arith in rw z (none-from k i m (λ j l. h j (omega arith)))
+wider (suc w) k i m h = rw (suc-add w k) (ap (λ (r : List ℕ). cond (has m i) (i ∷ r) r) (wider w k (suc i) m (λ j l. h j (omega arith))))
 
 module _ (each : ℕ) where
   -- from 10 on a number has two digits
@@ -49,29 +61,30 @@ module _ (each : ℕ) where
       go true ih = omega (arith, ih, ap length (one-digit i (omega arith)), suc-mul (length (membersFrom (k + w) (suc i) m)) (each + 1))
       go false ih = ih
 
-  pub numbers-length : (m : ℕ) → m < 2 ^ 64 → (each + 1) * count m + count (m / 2 ^ 10) ≡ numbersLength each (members 64 m)
-  numbers-length m h =
-      let a = count-members 64 m h in
-      let b = count-from 10 54 m (omega arith) in
-      sym (from-low 10 54 0 m refl ∙ rw (a, b, mul-comm (each + 1) (length (members 64 m))))
+  pub numbers-length : (w m : ℕ) → m < 2 ^ w → (each + 1) * count m + count (m / 2 ^ 10) ≡ numbersLength each (members w m)
+  numbers-length w m h =
+      let a = count-members w m h in
+      let b = count-from 10 w m (lt-of-le-of-lt (div-le-self m (2 ^ 10)) h) in
+      let e : membersFrom (10 + w) 0 m ≡ members w m = ap (λ (k : ℕ). membersFrom k 0 m) (add-comm 10 w) ∙ wider w 10 0 m (λ j l. has-above w m j h (omega arith)) in
+      sym (ap (numbersLength each) (sym e) ∙ from-low 10 w 0 m refl ∙ rw (e, a, b, mul-comm (each + 1) (length (members w m))))
 
 grounds-list : (l : List ℕ) → numbersLength 10 l ≡ length (checksFrom true (map Ground l))
 unfolding numbersLength
 grounds-list [] = sym (ap length (checks-none true))
 grounds-list (x ∷ l) = omega (arith, grounds-list l, ground-length x, simp length-append at (ap length (item-step (Ground x) (map Ground l))))
 
-pub grounds-length : (set : ℕ) → numbersLength 10 (members 64 set) ≡ length (groundsText set)
+pub grounds-length : (w m : ℕ) → numbersLength 10 (members w m) ≡ length (groundsText w m)
 unfolding groundsText
-grounds-length set = grounds-list (members 64 set)
+grounds-length w m = grounds-list (members w m)
 
 row-list : (x : ℕ) (l : List ℕ) → numbersLength (11 + length (decimal x)) l ≡ length (checksFrom true (map (Indep x) l))
 unfolding numbersLength
 row-list x [] = sym (ap length (checks-none true))
 row-list x (y ∷ l) = omega (arith, row-list x l, indep-length x y, simp length-append at (ap length (item-step (Indep x y) (map (Indep x) l))))
 
-pub row-length : (x set : ℕ) → numbersLength (11 + length (decimal x)) (members 64 set) ≡ length (rowText x set)
+pub row-length : (w x m : ℕ) → numbersLength (11 + length (decimal x)) (members w m) ≡ length (rowText w x m)
 unfolding rowText
-row-length x set = row-list x (members 64 set)
+row-length w x m = row-list x (members w m)
 
 -- ---- the goals of a stage
 

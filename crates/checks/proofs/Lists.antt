@@ -47,59 +47,59 @@ next-place : (l : List ℕ) (x : ℕ) → goal l (x + 1) ≡ getD l x 0
 unfolding goal
 next-place l x = let i : x + 1 - 1 ≡ x = omega arith in rw i
 
-pub grounds-step : (rest : ℕ) → rest < 2 ^ 64 → (rest ≡ 0 → ⊥)
-    → groundsText rest ≡ item (Ground (first 64 rest)) ++ groundsText (without rest (single (first 64 rest)))
+pub grounds-step : (w rest : ℕ) → rest < 2 ^ w → (rest ≡ 0 → ⊥)
+    → groundsText w rest ≡ item (Ground (first w rest)) ++ groundsText w (without rest (single (first w rest)))
 unfolding groundsText
-grounds-step rest h n =
-    ap (λ (l : List ℕ). checksFrom true (map Ground l)) (members-step 64 rest h n)
-    ∙ item-step (Ground (first 64 rest)) (map Ground (members 64 (without rest (single (first 64 rest)))))
+grounds-step w rest h n =
+    ap (λ (l : List ℕ). checksFrom true (map Ground l)) (members-step w rest h n)
+    ∙ item-step (Ground (first w rest)) (map Ground (members w (without rest (single (first w rest)))))
 
-pub grounds-end : (rest : ℕ) → rest ≡ 0 → groundsText rest ≡ []
+pub grounds-end : (w rest : ℕ) → rest ≡ 0 → groundsText w rest ≡ []
 unfolding groundsText
-grounds-end rest e = rw (e, members-none 64) (checks-none true)
+grounds-end w rest e = rw (e, members-none w) (checks-none true)
 
-pub row-step : (x rest : ℕ) → rest < 2 ^ 64 → (rest ≡ 0 → ⊥)
-    → rowText x rest ≡ item (Indep x (first 64 rest)) ++ rowText x (without rest (single (first 64 rest)))
+pub row-step : (w x rest : ℕ) → rest < 2 ^ w → (rest ≡ 0 → ⊥)
+    → rowText w x rest ≡ item (Indep x (first w rest)) ++ rowText w x (without rest (single (first w rest)))
 unfolding rowText
-row-step x rest h n =
-    ap (λ (l : List ℕ). checksFrom true (map (Indep x) l)) (members-step 64 rest h n)
-    ∙ item-step (Indep x (first 64 rest)) (map (Indep x) (members 64 (without rest (single (first 64 rest)))))
+row-step w x rest h n =
+    ap (λ (l : List ℕ). checksFrom true (map (Indep x) l)) (members-step w rest h n)
+    ∙ item-step (Indep x (first w rest)) (map (Indep x) (members w (without rest (single (first w rest)))))
 
-pub row-end : (x rest : ℕ) → rest ≡ 0 → rowText x rest ≡ []
+pub row-end : (w x rest : ℕ) → rest ≡ 0 → rowText w x rest ≡ []
 unfolding rowText
-row-end x rest e = rw (e, members-none 64) (checks-none true)
+row-end w x rest e = rw (e, members-none w) (checks-none true)
 
-module _ (own rows : List ℕ) (k : ℕ) where
-  pub rows-step : (rest : ℕ) → rest < 2 ^ 64 → (rest ≡ 0 → ⊥) →
-      let x = first 64 rest in
-      rowsText own rows k rest ≡ rowText x (apart k (goal rows (x + 1)) (goal own (x + 1)) x) ++ rowsText own rows k (without rest (single x))
+module _ (w : ℕ) (own rows : List ℕ) (k : ℕ) where
+  pub rows-step : (rest : ℕ) → rest < 2 ^ w → (rest ≡ 0 → ⊥) →
+      let x = first w rest in
+      rowsText w own rows k rest ≡ rowText w x (apart k (goal rows (x + 1)) (goal own (x + 1)) x) ++ rowsText w own rows k (without rest (single x))
   unfolding rowsText rowText rowsOf
   rows-step rest h n =
-      let x = first 64 rest in
-      ap (λ (l : List ℕ). checksFrom true (rowsOf own rows k l)) (members-step 64 rest h n)
-      ∙ checks-append (map (Indep x) (members 64 (apart k (goal rows (x + 1)) (goal own (x + 1)) x))) (rowsOf own rows k (members 64 (without rest (single x))))
+      let x = first w rest in
+      ap (λ (l : List ℕ). checksFrom true (rowsOf w own rows k l)) (members-step w rest h n)
+      ∙ checks-append (map (Indep x) (members w (apart k (goal rows (x + 1)) (goal own (x + 1)) x))) (rowsOf w own rows k (members w (without rest (single x))))
 
-  pub rows-end : (rest : ℕ) → rest ≡ 0 → rowsText own rows k rest ≡ []
+  pub rows-end : (rest : ℕ) → rest ≡ 0 → rowsText w own rows k rest ≡ []
   unfolding rowsText rowsOf
-  rows-end rest e = rw (e, members-none 64) (checks-none true)
+  rows-end rest e = rw (e, members-none w) (checks-none true)
 
-module _ (sets rows : List ℕ) (p q k : ℕ) where
-  pub pairs-none : k ≡ 0 → [] ≡ pairsText sets rows p q k k
+module _ (w : ℕ) (sets rows : List ℕ) (p q k : ℕ) where
+  pub pairs-none : k ≡ 0 → [] ≡ pairsText w sets rows p q k k
   unfolding pairsText pairsOf
-  pairs-none e = sym (rw (e, members-none 64) (checks-none true))
+  pairs-none e = sym (rw (e, members-none w) (checks-none true))
 
   -- the sets of the candidates' goals, found once
-  same-rows : (own l : List ℕ) → ((x : ℕ) → In x l → goal own (x + 1) ≡ goalWith sets p q x) → rowsOf own rows k l ≡ pairsOf sets rows p q k l
+  same-rows : (own l : List ℕ) → ((x : ℕ) → In x l → goal own (x + 1) ≡ goalWith sets p q x) → rowsOf w own rows k l ≡ pairsOf w sets rows p q k l
   unfolding rowsOf pairsOf partners
   same-rows own [] h = refl
   same-rows own (x ∷ l) h =
-      ap₂ (λ (a : ℕ) (b : List Check). map (Indep x) (members 64 (apart k (goal rows (x + 1)) a x)) ++ b) (h x (inl refl)) (same-rows own l (λ y i. h y (inr i)))
+      ap₂ (λ (a : ℕ) (b : List Check). map (Indep x) (members w (apart k (goal rows (x + 1)) a x)) ++ b) (h x (inl refl)) (same-rows own l (λ y i. h y (inr i)))
 
-  pub own-rows : (own : List ℕ) → OwnGoals sets p q k own → rowsText own rows k k ≡ pairsText sets rows p q k k
+  pub own-rows : (own : List ℕ) → OwnGoals w sets p q k own → rowsText w own rows k k ≡ pairsText w sets rows p q k k
   unfolding rowsText pairsText OwnGoals
   own-rows own h =
-      ap (checksFrom true) (same-rows own (members 64 k) (λ x i.
-      let m = in-members 64 0 k x i in
+      ap (checksFrom true) (same-rows own (members w k) (λ x i.
+      let m = in-members w 0 k x i in
       next-place own x ∙ h x (omega (arith, m .1)) (m .2)))
 
 -- ---- the parts of a check, as the code writes them

@@ -31,13 +31,13 @@ fn put_indep(out: &mut [u8], at: usize, x: u8, y: u8) -> usize
     text::store_byte(out, o, b')')
 }
 
-// Writes the check of each variable of a set, ascending, a comma before each.
-pub fn put_grounds(out: &mut [u8], at: usize, set: u64) -> usize
-    requires { ⌜ at + length (X.groundsText set) ≤ length (now out) ⌝ }
-    ensures { λ r. ⌜ Wrote (X.groundsText set) at (now (out .entry)) r (now (out .exit)) ⌝ }
+// Writes the check of each variable of the set m, ascending, a comma before each.
+pub fn put_grounds(out: &mut [u8], at: usize, m: u64) -> usize
+    requires { ⌜ at + length (X.groundsText 64 m) ≤ length (now out) ⌝ }
+    ensures { λ r. ⌜ Wrote (X.groundsText 64 m) at (now (out .entry)) r (now (out .exit)) ⌝ }
 {
     let mut o = at;
-    let mut rest = set;
+    let mut rest = m;
     while rest != 0 {
         let x = sets::first(rest);
         o = put_ground(out, o, x as u8);
@@ -46,14 +46,14 @@ pub fn put_grounds(out: &mut [u8], at: usize, set: u64) -> usize
     o
 }
 
-// Writes the check of x with each variable of a set, ascending, a comma before each.
-fn put_row(out: &mut [u8], at: usize, x: u8, set: u64) -> usize
+// Writes the check of x with each variable of the set m, ascending, a comma before each.
+fn put_row(out: &mut [u8], at: usize, x: u8, m: u64) -> usize
     requires { ⌜ x < 100 ⌝ }
-    requires { ⌜ at + length (X.rowText x set) ≤ length (now out) ⌝ }
-    ensures { λ r. ⌜ Wrote (X.rowText x set) at (now (out .entry)) r (now (out .exit)) ⌝ }
+    requires { ⌜ at + length (X.rowText 64 x m) ≤ length (now out) ⌝ }
+    ensures { λ r. ⌜ Wrote (X.rowText 64 x m) at (now (out .entry)) r (now (out .exit)) ⌝ }
 {
     let mut o = at;
-    let mut rest = set;
+    let mut rest = m;
     while rest != 0 {
         let y = sets::first(rest);
         o = put_indep(out, o, x, y as u8);
@@ -64,8 +64,8 @@ fn put_row(out: &mut [u8], at: usize, x: u8, set: u64) -> usize
 
 // Writes the check of each candidate with its partners, ascending, a comma before each; own has the set of each candidate's goal.
 fn put_rows(out: &mut [u8], at: usize, own: &[u64], rows: &[u64], k: u64) -> usize
-    requires { ⌜ at + length (X.rowsText (now own) (now rows) k k) ≤ length (now out) ⌝ }
-    ensures { λ r. ⌜ Wrote (X.rowsText (now (own .entry)) (now (rows .entry)) k k) at (now (out .entry)) r (now (out .exit)) ⌝ }
+    requires { ⌜ at + length (X.rowsText 64 (now own) (now rows) k k) ≤ length (now out) ⌝ }
+    ensures { λ r. ⌜ Wrote (X.rowsText 64 (now (own .entry)) (now (rows .entry)) k k) at (now (out .entry)) r (now (out .exit)) ⌝ }
 {
     let mut o = at;
     let mut rest = k;
@@ -91,8 +91,8 @@ pub fn put_pairs(
     k: u64,
 ) -> usize
     requires { ⌜ (p ≤ q) × (q < 2 ^ 32) ⌝ }
-    requires { ⌜ at + length (X.pairsText (now sets) (now rows) p q k k) ≤ length (now out) ⌝ }
-    ensures { λ r. ⌜ Wrote (X.pairsText (now (sets .entry)) (now (rows .entry)) p q k k) at (now (out .entry)) r (now (out .exit)) ⌝ }
+    requires { ⌜ at + length (X.pairsText 64 (now sets) (now rows) p q k k) ≤ length (now out) ⌝ }
+    ensures { λ r. ⌜ Wrote (X.pairsText 64 (now (sets .entry)) (now (rows .entry)) p q k k) at (now (out .entry)) r (now (out .exit)) ⌝ }
 {
     if k == 0 {
         return at;
@@ -129,35 +129,35 @@ pub fn put_arrow(out: &mut [u8], at: usize, on: bool) -> usize
     at
 }
 
-// The length of texts that a set's members have, one each: `each` bytes beside the member's number.
-fn numbers_length(each: usize, set: u64) -> usize
+// The length of texts that the members of the set m have, one each: `each` bytes beside the member's number.
+fn numbers_length(each: usize, m: u64) -> usize
     requires { ⌜ each ≤ 100 ⌝ }
-    ensures { λ r. ⌜ r ≡ X.numbersLength each (members 64 set) ⌝ }
+    ensures { λ r. ⌜ r ≡ X.numbersLength each (members 64 m) ⌝ }
 {
-    let all = sets::count(set) as usize;
-    let tens = sets::count(set >> 10) as usize;
+    let all = sets::count(m) as usize;
+    let tens = sets::count(m >> 10) as usize;
     (each + 1) * all + tens
 }
 
-// The length of the ground checks of a set.
-pub fn grounds_length(set: u64) -> usize
-    ensures { λ r. ⌜ r ≡ length (X.groundsText set) ⌝ }
+// The length of the ground checks of the set m.
+pub fn grounds_length(m: u64) -> usize
+    ensures { λ r. ⌜ r ≡ length (X.groundsText 64 m) ⌝ }
 {
-    numbers_length(10, set)
+    numbers_length(10, m)
 }
 
-// The length of the checks of x with each variable of a set.
-fn row_length(x: u8, set: u64) -> usize
+// The length of the checks of x with each variable of the set m.
+fn row_length(x: u8, m: u64) -> usize
     requires { ⌜ x < 100 ⌝ }
-    ensures { λ r. ⌜ r ≡ length (X.rowText x set) ⌝ }
+    ensures { λ r. ⌜ r ≡ length (X.rowText 64 x m) ⌝ }
 {
-    numbers_length(11 + text::number_length(x), set)
+    numbers_length(11 + text::number_length(x), m)
 }
 
 // The length of the checks of each candidate with its partners.
 fn rows_length(own: &[u64], rows: &[u64], k: u64) -> usize
-    requires { ⌜ length (X.rowsText (now own) (now rows) k k) < 2 ^ 63 ⌝ }
-    ensures { λ r. ⌜ r ≡ length (X.rowsText (now (own .entry)) (now (rows .entry)) k k) ⌝ }
+    requires { ⌜ length (X.rowsText 64 (now own) (now rows) k k) < 2 ^ 63 ⌝ }
+    ensures { λ r. ⌜ r ≡ length (X.rowsText 64 (now (own .entry)) (now (rows .entry)) k k) ⌝ }
 {
     let mut o: usize = 0;
     let mut rest = k;
@@ -175,8 +175,8 @@ fn rows_length(own: &[u64], rows: &[u64], k: u64) -> usize
 // The length of the independence checks of the candidates k of the stage p+1 to q.
 pub fn pairs_length(sets: &[u64], rows: &[u64], p: usize, q: usize, k: u64) -> usize
     requires { ⌜ (p ≤ q) × (q < 2 ^ 32) ⌝ }
-    requires { ⌜ length (X.pairsText (now sets) (now rows) p q k k) < 2 ^ 63 ⌝ }
-    ensures { λ r. ⌜ r ≡ length (X.pairsText (now (sets .entry)) (now (rows .entry)) p q k k) ⌝ }
+    requires { ⌜ length (X.pairsText 64 (now sets) (now rows) p q k k) < 2 ^ 63 ⌝ }
+    ensures { λ r. ⌜ r ≡ length (X.pairsText 64 (now (sets .entry)) (now (rows .entry)) p q k k) ⌝ }
 {
     if k == 0 {
         return 0;

@@ -163,10 +163,10 @@ said-verdict none = refl
 said-verdict (some p) = refl
 
 -- the rows of two orders differ where the orders do
-pub rows-differ : (n : ℕ) (R S : ℕ → ℕ → Bool) → n ≤ 32 → firstDiffer n (ahead (rowsOf n R)) (ahead (rowsOf n S)) ≡ firstDiffer n R S
+pub rows-differ : (n : ℕ) (R S : ℕ → ℕ → Bool) → n ≤ 32 → firstDiffer n (ahead (rowsOf 32 n R)) (ahead (rowsOf 32 n S)) ≡ firstDiffer n R S
 rows-differ n R S few =
-    differ-cong n (ahead (rowsOf n R)) R (ahead (rowsOf n S)) S (λ i j g h. rows-say n R i j few (g .0) (g .1) (h .0) (h .1))
-    (λ i j g h. rows-say n S i j few (g .0) (g .1) (h .0) (h .1))
+    differ-cong n (ahead (rowsOf 32 n R)) R (ahead (rowsOf 32 n S)) S (λ i j g h. rows-say 32 n R i j few (g .0) (g .1) (h .0) (h .1))
+    (λ i j g h. rows-say 32 n S i j few (g .0) (g .1) (h .0) (h .1))
 
 -- ---- the check, from the reading of the text and the comparison of the rows
 pub checked-refused : (n : ℕ) (R : ℕ → ℕ → Bool) (t : List ℕ) (k p : ℕ) → readText n t ≡ refusal k p → Check.checked n R t ≡ refusal k p
@@ -174,7 +174,7 @@ unfolding Check.checked
 checked-refused n R t k p h = ap (λ r. Check.judged n R r) h
 
 pub checked-compared : (n : ℕ) (R : ℕ → ℕ → Bool) (t : List ℕ) (e : Expr) → n ≤ 32 → readText n t ≡ answer e
-    → Check.checked n R t ≡ answer (verdictOf (said (firstDiffer n (ahead (rowsOf n R)) (ahead (rowsOf n (before e))))))
+    → Check.checked n R t ≡ answer (verdictOf (said (firstDiffer n (ahead (rowsOf 32 n R)) (ahead (rowsOf 32 n (before e))))))
 unfolding Check.checked
 checked-compared n R t e few h =
     ap (λ r. Check.judged n R r) h

@@ -1,4 +1,5 @@
 // The comparison of two orders by their rows: "same", or the first i, then j, for which just one of the two has i before j.
+use graph::Graph;
 ghost use mathlib.Core.Path.{_≡_};
 ghost use Prim.Native.Nat.{_≤_};
 ghost use Rattle.sets.specs.Sets as S;
@@ -23,15 +24,8 @@ fn odd(goals: u32, p: u32, q: u32) -> u32
     goals & ((p ^ (p & q)) | (q ^ (q & p)))
 }
 
-// Which of several is reported: the first.
-fn lowest(set: u32) -> u32
-    ensures { λ r. ⌜ r ≡ S.first 32 set ⌝ }
-{
-    u32::trailing_zeros(set)
-}
-
 // One row of each order a turn: the goals whose rows differ, of these the first, and the first goal that is in just one of its two rows.
-pub fn compare(a: &[u32; 32], b: &[u32; 32], n: usize) -> Verdict
+pub fn compare(a: &[u32; Graph::MAX], b: &[u32; Graph::MAX], n: usize) -> Verdict
     requires { ⌜ n ≤ 32 ⌝ }
     ensures { λ r. ⌜ r ≡ said (firstDiffer n (ahead (now (a .entry))) (ahead (now (b .entry)))) ⌝ }
 {
@@ -39,13 +33,15 @@ pub fn compare(a: &[u32; 32], b: &[u32; 32], n: usize) -> Verdict
     let mut uneven: u32 = 0;
     for k in 0..n {
         if odd(goals, a[k], b[k]) != 0 {
-            uneven = uneven | sets::single32(k);
+            uneven = uneven | Graph::single(k + 1);
         }
     }
     if uneven == 0 {
         return Verdict::Same;
     }
-    let i = lowest(uneven) as usize;
-    let j = lowest(odd(goals, a[i], b[i])) as usize;
-    Verdict::Differs(Pair { i: i + 1, j: j + 1 })
+    let row = sets::first32(uneven);
+    let goal = sets::first32(odd(goals, a[row], b[row]));
+    let i = row + 1;
+    let j = goal + 1;
+    Verdict::Differs(Pair { i, j })
 }

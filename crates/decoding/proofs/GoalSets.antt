@@ -1,30 +1,35 @@
--- Filling the sets of the goals.
+-- The sets of the goals, and filling them, for any width.
 use mathlib.Core.Path.{_≡_, ap, _∙_}
 use mathlib.Core.List.{List}
-use Prim.Native.Nat.{ℕ, suc, _+_, _-_, _<_}
+use Prim.Native.Nat.{ℕ, suc, _+_, _-_, _≤_, _<_}
 use native.Mathlib.Omega.{arith}
-use lib.ListN.{set, replicate}
+use lib.ListN.{getD, set, replicate}
 use Rattle.arrays.specs.Table.{table}
-use Rattle.arrays.proofs.Table.{table-zero, table-more}
+use Rattle.arrays.proofs.Table.{table-at, table-zero, table-more}
 use Rattle.fields.specs.Fields as F
 use Rattle.fields.specs.Fields.{goalCount, goalSet, placeAfter}
 use Rattle.decoding.specs.Clause.{goalSets}
 
-module _ (b : List ℕ) where
+module _ (w : ℕ) (b : List ℕ) where
   -- the sets of the first g goals
   unfoldable pub setsAfter : ℕ → List ℕ
-  setsAfter g = table 32 g (λ i. goalSet b (suc i))
+  setsAfter g = table w g (λ i. goalSet b (suc i))
 
-  pub sets-zero : replicate 32 0 ≡ setsAfter 0
+  pub sets-zero : replicate w 0 ≡ setsAfter 0
   unfolding setsAfter
-  sets-zero = table-zero 32 (λ i. goalSet b (suc i))
+  sets-zero = table-zero w (λ i. goalSet b (suc i))
 
-  pub sets-more : (g at : ℕ) (l : List ℕ) (v : ℕ) → g < 32 → l ≡ setsAfter g → at ≡ placeAfter b g → v ≡ F.set b at → set l g v ≡ setsAfter (g + 1)
+  pub sets-more : (g at : ℕ) (l : List ℕ) (v : ℕ) → g < w → l ≡ setsAfter g → at ≡ placeAfter b g → v ≡ F.set b at → set l g v ≡ setsAfter (g + 1)
   unfolding setsAfter goalSet
   sets-more g at l v h e p q =
       let one : g ≡ suc g - 1 = omega arith in
-      table-more 32 g (λ i. goalSet b (suc i)) l v h e (q ∙ ap (F.set b) (p ∙ ap (placeAfter b) one))
+      table-more w g (λ i. goalSet b (suc i)) l v h e (q ∙ ap (F.set b) (p ∙ ap (placeAfter b) one))
 
-  pub sets-all : (g : ℕ) → g ≡ goalCount b → setsAfter g ≡ goalSets b
+  pub sets-all : (g : ℕ) → g ≡ goalCount b → setsAfter g ≡ goalSets w b
   unfolding setsAfter goalSets
-  sets-all g e = ap (λ (n : ℕ). table 32 n (λ i. goalSet b (suc i))) e
+  sets-all g e = ap (λ (n : ℕ). table w n (λ i. goalSet b (suc i))) e
+
+  -- goal i + 1 at place i
+  pub goal-at : (i : ℕ) → goalCount b ≤ w → i < goalCount b → getD (goalSets w b) i 0 ≡ goalSet b (suc i)
+  unfolding goalSets
+  goal-at i h l = table-at w (goalCount b) (λ k. goalSet b (suc k)) i (omega arith) l

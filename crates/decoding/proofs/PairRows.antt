@@ -1,16 +1,16 @@
--- Marking the listed pairs in their rows, one pair after the other.
+-- The rows of the listed pairs, and marking the pairs in them, one after the other. For any width.
 use mathlib.Core.Path.{_≡_, refl, sym, ap, ap₂, _∙_, subst}
 use mathlib.Core.Bool.{Bool, true, false, _&&_, _||_}
 use mathlib.Core.List.{List}
 use Prim.Native.Nat.{ℕ, _+_, _*_, _%_, _^_, _<_}
-use native.Mathlib.Decide.{decLt, ℕ-discrete}
-use native.Mathlib.Nat.{zero-lt-suc}
+use native.Mathlib.Decide.{ℕ-discrete}
 use native.Mathlib.Numerals.{add-one}
 use native.Mathlib.Omega.{arith}
-use lib.Dec.{eqb, ltb}
+use lib.Dec.{eqb}
 use lib.ListN.{length, getD, set, replicate, length-set, length-replicate, getD-replicate}
+use lib.Pow.{pow-pos}
 use lib.Seq.{getD-set-same, getD-set-other}
-use borrow.Author.Tests.{eq-eqb, ne-eqb, lt-ltb, le-ltb, ltb-false}
+use borrow.Author.Tests.{eq-eqb, ne-eqb}
 use Rattle.logic.specs.Quantifiers.{someBelow}
 use Rattle.arrays.specs.Table.{table}
 use Rattle.arrays.proofs.Table.{table-length, table-at, table-ext}
@@ -25,18 +25,18 @@ use Rattle.decoding.specs.Clause.{pairRows}
 unfoldable pub put : List ℕ → ℕ → ℕ → List ℕ
 put l i j = set l i (union (getD l i 0) (single j))
 
--- rows of masks below 2 ^ 64
-abbrev Fits : List ℕ → Type 0
-Fits l = (x : ℕ) → x < 64 → getD l x 0 < 2 ^ 64
+-- rows of masks below 2 ^ w
+abbrev Fits : ℕ → List ℕ → Type 0
+Fits w l = (x : ℕ) → x < w → getD l x 0 < 2 ^ w
 
 or-false : (p : Bool) → p || false ≡ p
 or-false true = refl
 or-false false = refl
 
 -- as the machine computes it
-pub put-shifted : (l : List ℕ) (i j : ℕ) → j < 64 → set l i (union (getD l i 0) (1 * 2 ^ j % 2 ^ 64)) ≡ put l i j
+pub put-shifted : (w : ℕ) (l : List ℕ) (i j : ℕ) → j < w → set l i (union (getD l i 0) (1 * 2 ^ j % 2 ^ w)) ≡ put l i j
 unfolding put
-put-shifted l i j h = ap (λ (m : ℕ). set l i (union (getD l i 0) m)) (shl-single 64 j h)
+put-shifted w l i j h = ap (λ (m : ℕ). set l i (union (getD l i 0) m)) (shl-single w j h)
 
 put-length : (l : List ℕ) (i j : ℕ) → length (put l i j) ≡ length l
 unfolding put
@@ -53,8 +53,8 @@ put-at l i j x h P p q = go (ℕ-discrete x i)
     go (yes e) = subst P (ap (λ (z : ℕ). union (getD l z 0) (single j)) e ∙ sym (ap (λ (z : ℕ). getD (set l i v) z 0) e ∙ getD-set-same l i v 0 h)) (q e)
     go (no n) = subst P (sym (getD-set-other l i x v 0 n)) p
 
-put-fits : (l : List ℕ) (i j : ℕ) → i < length l → j < 64 → Fits l → Fits (put l i j)
-put-fits l i j h hj f x hx = put-at l i j x h (λ (m : ℕ). m < 2 ^ 64) (f x hx) (λ e. union-lt 64 (getD l x 0) (single j) (f x hx) (single-lt 64 j hj))
+put-fits : (w : ℕ) (l : List ℕ) (i j : ℕ) → i < length l → j < w → Fits w l → Fits w (put l i j)
+put-fits w l i j h hj f x hx = put-at l i j x h (λ (m : ℕ). m < 2 ^ w) (f x hx) (λ e. union-lt w (getD l x 0) (single j) (f x hx) (single-lt w j hj))
 
 put-has : (l : List ℕ) (i j x y : ℕ) → i < length l → has (getD (put l i j) x 0) y ≡ has (getD l x 0) y || (eqb i x && eqb j y)
 unfolding put
@@ -73,7 +73,7 @@ put-has l i j x y h = go (ℕ-discrete x i)
 
 -- ---- the rows of the first k pairs
 
-module _ (b : List ℕ) where
+module _ (w : ℕ) (b : List ℕ) where
   abbrev pairIs : ℕ → ℕ → ℕ → Bool
   pairIs x y k = (eqb (byte b (pairAt b k)) x && eqb (byte b (pairAt b k + 1)) y) || (eqb (byte b (pairAt b k)) y && eqb (byte b (pairAt b k + 1)) x)
 
@@ -81,30 +81,30 @@ module _ (b : List ℕ) where
   within k x y = someBelow k (pairIs x y)
 
   unfoldable pub rowsAfter : ℕ → List ℕ
-  rowsAfter k = table 64 64 (λ x. setOf 64 (within k x))
+  rowsAfter k = table w w (λ x. setOf w (within k x))
 
   abbrev Marks : ℕ → List ℕ → Type 0
-  Marks k l = (x y : ℕ) → x < 64 → y < 64 → has (getD l x 0) y ≡ within k x y
+  Marks k l = (x y : ℕ) → x < w → y < w → has (getD l x 0) y ≡ within k x y
 
-  rows-ext : (k : ℕ) (l : List ℕ) → length l ≡ 64 → Fits l → Marks k l → l ≡ rowsAfter k
+  rows-ext : (k : ℕ) (l : List ℕ) → length l ≡ w → Fits w l → Marks k l → l ≡ rowsAfter k
   unfolding rowsAfter
   rows-ext k l n f m =
-      table-ext 64 64 (λ x. setOf 64 (within k x)) l n (λ x hx hx₂. setOf-ext 64 (getD l x 0) (within k x) (f x hx) (λ y hy. m x y hx hy))
+      table-ext w w (λ x. setOf w (within k x)) l n (λ x hx hx₂. setOf-ext w (getD l x 0) (within k x) (f x hx) (λ y hy. m x y hx hy))
       (λ x hx l₂. absurd (omega arith))
 
-  rows-length : (k : ℕ) → length (rowsAfter k) ≡ 64
+  rows-length : (k : ℕ) → length (rowsAfter k) ≡ w
   unfolding rowsAfter
-  rows-length k = table-length 64 64 (λ x. setOf 64 (within k x))
+  rows-length k = table-length w w (λ x. setOf w (within k x))
 
-  rows-at : (k x : ℕ) → x < 64 → getD (rowsAfter k) x 0 ≡ setOf 64 (within k x)
+  rows-at : (k x : ℕ) → x < w → getD (rowsAfter k) x 0 ≡ setOf w (within k x)
   unfolding rowsAfter
-  rows-at k x h = table-at 64 64 (λ x. setOf 64 (within k x)) x h h
+  rows-at k x h = table-at w w (λ x. setOf w (within k x)) x h h
 
-  rows-fit : (k : ℕ) → Fits (rowsAfter k)
-  rows-fit k x h = subst (λ (m : ℕ). m < 2 ^ 64) (sym (rows-at k x h)) (setOf-lt 64 (within k x))
+  rows-fit : (k : ℕ) → Fits w (rowsAfter k)
+  rows-fit k x h = subst (λ (m : ℕ). m < 2 ^ w) (sym (rows-at k x h)) (setOf-lt w (within k x))
 
   rows-mark : (k : ℕ) → Marks k (rowsAfter k)
-  rows-mark k x y hx hy = ap (λ (m : ℕ). has m y) (rows-at k x hx) ∙ has-setOf-in 64 (within k x) y hy
+  rows-mark k x y hx hy = ap (λ (m : ℕ). has m y) (rows-at k x hx) ∙ has-setOf-in w (within k x) y hy
 
   within-none : (x y : ℕ) → false ≡ within 0 x y
   unfolding someBelow
@@ -114,10 +114,10 @@ module _ (b : List ℕ) where
   unfolding someBelow
   within-more k x y = rw add-one
 
-  pub rows-zero : replicate 64 0 ≡ rowsAfter 0
+  pub rows-zero : replicate w 0 ≡ rowsAfter 0
   rows-zero =
-      rows-ext 0 (replicate 64 0) (length-replicate {A = ℕ} 64 0) (λ x h. subst (λ (m : ℕ). m < 2 ^ 64) (sym (getD-replicate 64 x 0 0 h)) (zero-lt-suc _))
-      (λ x y hx hy. ap (λ (m : ℕ). has m y) (getD-replicate 64 x 0 0 hx) ∙ has-empty y ∙ within-none x y)
+      rows-ext 0 (replicate w 0) (length-replicate {A = ℕ} w 0) (λ x h. subst (λ (m : ℕ). m < 2 ^ w) (sym (getD-replicate w x 0 0 h)) (pow-pos w))
+      (λ x y hx hy. ap (λ (m : ℕ). has m y) (getD-replicate w x 0 0 hx) ∙ has-empty y ∙ within-none x y)
 
   two-ways : (p q r s t : Bool) → (p || (q && r)) || (s && t) ≡ p || ((q && r) || (t && s))
   two-ways true q r s t = refl
@@ -132,13 +132,13 @@ module _ (b : List ℕ) where
       none true = refl
       none false = refl
 
-  -- a pair of variables below 64 is marked in both its rows
-  pub rows-more : (k i j : ℕ) (l : List ℕ) → i < 64 → j < 64 → i ≡ byte b (pairAt b k) → j ≡ byte b (pairAt b k + 1) → l ≡ rowsAfter k
+  -- a pair of variables below w is marked in both its rows
+  pub rows-more : (k i j : ℕ) (l : List ℕ) → i < w → j < w → i ≡ byte b (pairAt b k) → j ≡ byte b (pairAt b k + 1) → l ≡ rowsAfter k
       → put (put l i j) j i ≡ rowsAfter (k + 1)
   rows-more k i j l hi hj ei ej e =
       subst (λ (m : List ℕ). put (put m i j) j i ≡ rowsAfter (k + 1)) (sym e)
       (rows-ext (k + 1) (put (put r i j) j i) (put-length (put r i j) j i ∙ put-length r i j ∙ rows-length k)
-      (put-fits (put r i j) j i lj hi (put-fits r i j li hj (rows-fit k)))
+      (put-fits w (put r i j) j i lj hi (put-fits w r i j li hj (rows-fit k)))
       (λ x y hx hy.
       put-has (put r i j) j i x y lj ∙ ap (λ (t : Bool). t || (eqb j x && eqb i y)) (put-has r i j x y li ∙ ap (λ (t : Bool). t || (eqb i x && eqb j y)) (rows-mark k x y hx hy))
       ∙ two-ways (within k x y) (eqb i x) (eqb j y) (eqb j x) (eqb i y) ∙ ap (λ (t : Bool). within k x y || t) (same x y) ∙ sym (within-more k x y)))
@@ -155,38 +155,18 @@ module _ (b : List ℕ) where
       same : (x y : ℕ) → (eqb i x && eqb j y) || (eqb i y && eqb j x) ≡ pairIs x y k
       same x y = ap₂ (λ (p q : ℕ). (eqb p x && eqb q y) || (eqb p y && eqb q x)) ei ej
 
-  pub rows-turn : (k i j : ℕ) (l : List ℕ) → i < 64 → j < 64 → i ≡ byte b (pairAt b k) → j ≡ byte b (pairAt b k + 1) → l ≡ rowsAfter k
-      → (let m = set l i (union (getD l i 0) (1 * 2 ^ j % 2 ^ 64)) in set m j (union (getD m j 0) (1 * 2 ^ i % 2 ^ 64))) ≡ rowsAfter (k + 1)
+  pub rows-turn : (k i j : ℕ) (l : List ℕ) → i < w → j < w → i ≡ byte b (pairAt b k) → j ≡ byte b (pairAt b k + 1) → l ≡ rowsAfter k
+      → (let m = set l i (union (getD l i 0) (1 * 2 ^ j % 2 ^ w)) in set m j (union (getD m j 0) (1 * 2 ^ i % 2 ^ w))) ≡ rowsAfter (k + 1)
   rows-turn k i j l hi hj ei ej e =
-      put-shifted (set l i (union (getD l i 0) (1 * 2 ^ j % 2 ^ 64))) j i hi ∙ ap (λ (m : List ℕ). put m j i) (put-shifted l i j hj)
+      put-shifted w (set l i (union (getD l i 0) (1 * 2 ^ j % 2 ^ w))) j i hi ∙ ap (λ (m : List ℕ). put m j i) (put-shifted w l i j hj)
       ∙ rows-more k i j l hi hj ei ej e
 
-  -- any other pair is in no row
-  pub rows-same : (k i j : ℕ) (l : List ℕ) → ltb i 64 && ltb j 64 ≡ false → i ≡ byte b (pairAt b k) → j ≡ byte b (pairAt b k + 1) → l ≡ rowsAfter k
-      → l ≡ rowsAfter (k + 1)
-  rows-same k i j l h ei ej e =
-      e
-      ∙ rows-ext (k + 1) (rowsAfter k) (rows-length k) (rows-fit k)
-      (λ x y hx hy. rows-mark k x y hx hy ∙ sym (within-more k x y ∙ ap (λ (t : Bool). within k x y || t) (none x y hx hy) ∙ or-false (within k x y)))
-    where
-      and-none : (p q : Bool) → q ≡ false → p && q ≡ false
-      and-none true q e = e
-      and-none false q e = refl
-
-      other : (m z : ℕ) → ltb m 64 ≡ false → z < 64 → eqb m z ≡ false
-      other m z f hz = ne-eqb m z (λ s. absurd (omega (arith, ltb-false m 64 f)))
-
-      outside : Dec (i < 64) → (x y : ℕ) → x < 64 → y < 64 → (eqb i x && eqb j y) || (eqb i y && eqb j x) ≡ false
-      outside (yes p) x y hx hy =
-          let f : ltb j 64 ≡ false = sym (ap (λ (t : Bool). t && ltb j 64) (lt-ltb i 64 p)) ∙ h in
-          ap₂ _||_ (and-none (eqb i x) (eqb j y) (other j y f hy)) (and-none (eqb i y) (eqb j x) (other j x f hx))
-      outside (no p) x y hx hy =
-          let f : ltb i 64 ≡ false = le-ltb i 64 (omega arith) in
-          ap₂ (λ (s t : Bool). (s && eqb j y) || (t && eqb j x)) (other i x f hx) (other i y f hy)
-
-      none : (x y : ℕ) → x < 64 → y < 64 → pairIs x y k ≡ false
-      none x y hx hy = sym (ap₂ (λ (p q : ℕ). (eqb p x && eqb q y) || (eqb p y && eqb q x)) ei ej) ∙ outside (decLt i 64) x y hx hy
-
-  pub rows-all : (k : ℕ) → k ≡ pairCount b → rowsAfter k ≡ pairRows b
+  pub rows-all : (k : ℕ) → k ≡ pairCount b → rowsAfter k ≡ pairRows w b
   unfolding rowsAfter pairRows listed
-  rows-all k e = ap (λ (n : ℕ). table 64 64 (λ x. setOf 64 (within n x))) e
+  rows-all k e = ap (λ (n : ℕ). table w w (λ x. setOf w (within n x))) e
+
+  -- row x has y exactly if their pair is listed
+  pub pair-at : (x y : ℕ) → x < w → y < w → has (getD (pairRows w b) x 0) y ≡ listed b x y
+  unfolding pairRows
+  pair-at x y lx ly =
+      ap (λ (m : ℕ). has m y) (table-at w w (λ k. setOf w (listed b k)) x lx lx) ∙ has-setOf-in w (listed b x) y ly

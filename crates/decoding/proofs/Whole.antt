@@ -26,10 +26,10 @@ module _ (b : List ℕ) where
 
   -- ---- where something is refused, the arrays are of no account
 
-  pub header-refused : (r : Reading) (sets rows : List ℕ) → r ≡ reading b → headerFine b ≡ false → Decoded b r sets rows
+  pub header-refused : (r : Reading) (sets pairs : List ℕ) → r ≡ reading b → headerFine b ≡ false → Decoded b r sets pairs
   unfolding headerFine fine
-  header-refused r sets rows q h e = absurd (true≢false (sym (ap fine (header-stop b h ∙ sym q ∙ e)) ∙ h))
+  header-refused r sets pairs q h e = absurd (true≢false (sym (ap fine (header-stop b h ∙ sym q ∙ e)) ∙ h))
 
-  pub rest-refused : (r : Reading) (sets rows : List ℕ) → r ≡ reading b → headerFine b ≡ true → restFine b ≡ false → Decoded b r sets rows
+  pub rest-refused : (r : Reading) (sets pairs : List ℕ) → r ≡ reading b → headerFine b ≡ true → restFine b ≡ false → Decoded b r sets pairs
   unfolding restFine fine
-  rest-refused r sets rows q h f e = absurd (true≢false (sym (ap fine (header-go b h ∙ sym q ∙ e)) ∙ f))
+  rest-refused r sets pairs q h f e = absurd (true≢false (sym (ap fine (header-go b h ∙ sym q ∙ e)) ∙ f))

@@ -7,14 +7,14 @@ use Rattle.arrays.specs.Table.{table}
 use Rattle.sets.specs.Sets.{setOf}
 use Rattle.fields.specs.Fields.{goalCount, goalSet, listed}
 
--- the variable sets of the goals, goal g at g - 1
-unfoldable pub goalSets : List ℕ → List ℕ
-goalSets b = table 32 (goalCount b) (λ i. goalSet b (suc i))
+-- the variable sets of the goals, goal g at place g - 1 of w
+unfoldable pub goalSets : ℕ → List ℕ → List ℕ
+goalSets w b = table w (goalCount b) (λ i. goalSet b (suc i))
 
--- the listed pairs: row x is the set of the variables that stand in a pair with x
-unfoldable pub pairRows : List ℕ → List ℕ
-pairRows b = table 64 64 (λ x. setOf 64 (listed b x))
+-- the listed pairs of the variables below w: row x is the set of the variables that stand in a pair with x
+unfoldable pub pairRows : ℕ → List ℕ → List ℕ
+pairRows w b = table w w (λ x. setOf w (listed b x))
 
 -- two arrays hold them
 abbrev pub Holding : List ℕ → List ℕ → List ℕ → Type 0
-Holding b goals rows = (goals ≡ goalSets b) × (rows ≡ pairRows b)
+Holding b goals pairs = (goals ≡ goalSets 32 b) × (pairs ≡ pairRows 64 b)

@@ -1,4 +1,4 @@
-// Runs the cases of cases.txt and prints one answer a line, in the words of the conformance kit.
+// Runs the cases of cases.txt and prints one answer a line, in the words of the conformance kit; `no case` if there is none.
 use annotator::CheckAnswer;
 use annotator::ReadAnswer;
 use annotator::TextAnswer;
@@ -84,7 +84,7 @@ fn run_read(bytes: &[u8]) {
 
 fn say_graph(g: Graph) {
     say(b"ok");
-    let n = least(g.n, 32);
+    let n = least(g.n, Graph::MAX);
     say_number(n);
     let rows = g.rows;
     let mut i: usize = 0;
@@ -181,7 +181,7 @@ fn run_check(bytes: &[u8], text: &[u8]) {
 
 // The waits of a record before closure.
 fn run_waits(bytes: &[u8]) {
-    let mut goals = [0u64; 32];
+    let mut goals = [0u64; Graph::MAX];
     let mut pairs = [0u64; 64];
     match decoding::read(bytes, &mut goals, &mut pairs) {
         Reading::Fine => say_graph(order::waits_of(bytes, &goals, &pairs)),
@@ -212,8 +212,8 @@ fn run_sheet(bytes: &[u8]) {
 
 // A case that lends a buffer.
 fn run_writer(line: &[u8], bytes: &[u8], room: usize) {
-    let mut space = [0u8; 32768];
-    let n = least(room, 32768);
+    let mut space = [0u8; 196608];
+    let n = least(room, 196608);
     let out = &mut space[..n];
     if check::same(cases::field(line, 0), b"mel") {
         run_mel(bytes, out);
@@ -304,8 +304,8 @@ fn run_next(fd: i32) -> bool {
     true
 }
 
-// Runs the cases of a file up to its first empty line or its end.
-fn run_file(fd: i32) {
+// Runs the cases of a file after its first, up to its first empty line or its end.
+fn run_others(fd: i32) {
     let mut left: usize = 100000;
     while 0 < left {
         if run_next(fd) {
@@ -313,6 +313,15 @@ fn run_file(fd: i32) {
         } else {
             left = 0;
         }
+    }
+}
+
+// Runs the cases of a file; says so if it has none.
+fn run_file(fd: i32) {
+    if run_next(fd) {
+        run_others(fd);
+    } else {
+        say(b"no case\n");
     }
 }
 

@@ -12,7 +12,6 @@ pub mod Uses
 pub mod Split
 pub mod Length
 pub mod Search
-pub mod Closure
 pub mod Restore
 pub mod Arrange
 pub mod Theorems

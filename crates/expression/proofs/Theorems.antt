@@ -16,7 +16,7 @@ use lib.Dec.{eqb, ltb}
 use lib.ListN.{length}
 use borrow.Author.Tests.{eq-eqb, eqb-true, lt-ltb, ltb-true}
 use Rattle.logic.proofs.Bools.{iff, is-false}
-use Rattle.expression.specs.Expr.{Expr, times, stands, before, Once, Induces, UsesOnce, UsesFour, Goals, HasOrder, House, HouseForm, N, NoN, Order}
+use Rattle.expression.specs.Expr.{Expr, times, stands, before, Once, Induces, UsesOnce, UsesFour, Goals, Matches, House, HouseForm, N, NoN, Order}
 use Rattle.expression.specs.Induced.{Holds, Innermost, Before}
 use Rattle.expression.specs.Form.{form}
 use Rattle.expression.specs.Text.{text}
@@ -42,7 +42,7 @@ pub before-is : (e : Expr) → Once e → (i j : ℕ) → (before e i j ≡ true
 before-is e u i j = Induced.before-is i j e u
 
 -- so to have an order is what the paper says it is;
-pub has-order-is : (R : ℕ → ℕ → Bool) (n : ℕ) (e : Expr) → UsesOnce n e → HasOrder R n e ↔ ((i j : ℕ) → Goals n i → Goals n j → Before e i j ↔ (R i j ≡ true))
+pub has-order-is : (R : ℕ → ℕ → Bool) (n : ℕ) (e : Expr) → UsesOnce n e → Matches R n e ↔ ((i j : ℕ) → Goals n i → Goals n j → Before e i j ↔ (R i j ≡ true))
 has-order-is R n e u = (
   (λ h i j p q. let b = before-is e (uses-once n e u) i j in (λ x. sym (h i j p q) ∙ b .1 x, λ t. b .0 (h i j p q ∙ t))),
   (λ h i j p q. let b = before-is e (uses-once n e u) i j in iff (before e i j) (R i j) (λ t. h i j p q .0 (b .0 t)) (λ t. b .1 (h i j p q .1 t))),
@@ -62,7 +62,7 @@ induced-no-n R e u h a b c d ha hb hc hd n =
     (stands-in e a ha) (stands-in e b hb) (stands-in e c hc) (stands-in e d hd)
 
 -- so an order with an N has no expression, in house form or not,
-pub order-no-n : (R : ℕ → ℕ → Bool) (n : ℕ) (e : Expr) → UsesOnce n e → HasOrder R n e → NoN R (Goals n)
+pub order-no-n : (R : ℕ → ℕ → Bool) (n : ℕ) (e : Expr) → UsesOnce n e → Matches R n e → NoN R (Goals n)
 order-no-n R n e u h a b c d ha hb hc hd x =
     no-n R x e (order-fits R n e u h) (in-uses n e u a ha) (in-uses n e u b hb) (in-uses n e u c hc) (in-uses n e u d hd)
 
@@ -86,7 +86,7 @@ pub form-is : (R : ℕ → ℕ → Bool) (n : ℕ) → Order R (Goals n) → NoN
 form-is R n o free h = form-house R n (form R n) (all-pass R n (form R n) (form-on R n o free (λ _. true) 1 (omega arith, h) refl))
 
 -- With T1: an order on the goals 1 to n has an expression exactly if it has no N.
-pub has-expression-any : (R : ℕ → ℕ → Bool) (n : ℕ) → Strict R (Goals n) → 1 ≤ n → ((e : Expr) × UsesOnce n e × HasOrder R n e) ↔ NoN R (Goals n)
+pub has-expression-any : (R : ℕ → ℕ → Bool) (n : ℕ) → Strict R (Goals n) → 1 ≤ n → ((e : Expr) × UsesOnce n e × Matches R n e) ↔ NoN R (Goals n)
 has-expression-any R n o h = (
   (λ x. order-no-n R n (x .0) (x .1) (x .2)),
   λ free. let f = form-any R n o free h in (formAny R n, f .uses, f .order),
@@ -96,7 +96,7 @@ pub order-strict : (R : ℕ → ℕ → Bool) (S : ℕ → Type 0) → Order R S
 order-strict R S o =
     record { unlike = λ i s. is-false (R i i) (λ t. omega (arith, o .rising i i s s t)); chained = o .chained }
 
-pub has-expression : (R : ℕ → ℕ → Bool) (n : ℕ) → Order R (Goals n) → 1 ≤ n → ((e : Expr) × UsesOnce n e × HasOrder R n e) ↔ NoN R (Goals n)
+pub has-expression : (R : ℕ → ℕ → Bool) (n : ℕ) → Order R (Goals n) → 1 ≤ n → ((e : Expr) × UsesOnce n e × Matches R n e) ↔ NoN R (Goals n)
 has-expression R n o = has-expression-any R n (order-strict R (Goals n) o)
 
 -- ---- T3. It is the only house form of the order.

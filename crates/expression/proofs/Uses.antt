@@ -6,7 +6,7 @@ use Prim.Native.Nat.{ℕ, _≤_}
 use native.Mathlib.Omega.{arith}
 use lib.Dec.{leb}
 use borrow.Author.Tests.{leb-true, le-leb}
-use Rattle.expression.specs.Expr.{Expr, times, Once, UsesOnce, Goals, HasOrder, HouseForm}
+use Rattle.expression.specs.Expr.{Expr, times, Once, UsesOnce, Goals, Matches, HouseForm}
 use Rattle.expression.proofs.Fits.{In, Fits}
 use Rattle.logic.proofs.Bools.{test, and-true}
 use Rattle.expression.proofs.Exists.{Form, form-set}
@@ -48,7 +48,7 @@ module _ (n : ℕ) (e : Expr) where
           h ∙ ap (λ b. cond b 1 0) (sym t)
 
 -- an expression that uses 1 to n once and has the order R fits R
-pub order-fits : (R : ℕ → ℕ → Bool) (n : ℕ) (e : Expr) → UsesOnce n e → HasOrder R n e → Fits R e
+pub order-fits : (R : ℕ → ℕ → Bool) (n : ℕ) (e : Expr) → UsesOnce n e → Matches R n e → Fits R e
 order-fits R n e u h = before-fits R e (uses-once n e u) (λ i j p q. h i j (uses-in n e u i p) (uses-in n e u j q))
 
 -- a house form of the order R is a form over all goals, and the other way round

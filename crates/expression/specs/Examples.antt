@@ -1,30 +1,14 @@
--- Examples of orders, forms, first N and restored house forms; they hold by computation.
+-- Examples of orders and house forms; they hold by computation.
 use mathlib.Core.Path.{_≡_, refl}
-use mathlib.Core.Bool.{Bool, true, false, _&&_, _||_}
-use mathlib.Core.List.{List, [], _∷_}
-use mathlib.Core.Option.{Option, none, some}
-use Prim.Native.Nat.{ℕ, _%_}
+use mathlib.Core.Bool.{true, false, _&&_}
+use mathlib.Core.List.{[], _∷_}
+use Prim.Native.Nat.{_%_}
 use lib.Dec.{eqb, ltb}
 use lib.ListN.{length}
 use Rattle.expression.specs.Expr.{Expr, goal, join, one, more, before}
-use Rattle.expression.specs.Form.{form}
 use Rattle.expression.specs.Text.{text}
-use Rattle.expression.specs.Search.{Four, firstN}
-use Rattle.expression.specs.Closure.{closed}
 use Rattle.expression.specs.Restore.{restore}
 use Rattle.expression.specs.Arrange.{formAny, formList}
-
--- The waits of a list of pairs.
-abbrev waits : List (ℕ × ℕ) → ℕ → ℕ → Bool
-waits [] i j = false
-waits (p ∷ l) i j = (eqb i (p .0) && eqb j (p .1)) || waits l i j
-
--- The text of the form of n goals with these waits, and their first N.
-abbrev formText : ℕ → List (ℕ × ℕ) → List ℕ
-formText n l = text (form (closed (waits l) n) n)
-
-abbrev firstFour : ℕ → List (ℕ × ℕ) → Option Four
-firstFour n l = firstN (closed (waits l) n) n
 
 -- (1,3)&2 has 1 before 3 and nothing else
 abbrev small : Expr
@@ -32,16 +16,6 @@ small = join false (join true (goal 1) (one (goal 3))) (one (goal 2))
 
 orders : (before small 1 3 ≡ true) × (before small 3 1 ≡ false) × (before small 1 2 ≡ false) × (before small 2 3 ≡ false)
 orders = (refl, refl, refl, refl)
-
-forms
-    : (formText 1 [] ≡ 49 ∷ [])  -- 1
-    × (formText 3 ((1, 3) ∷ []) ≡ 40 ∷ 49 ∷ 44 ∷ 51 ∷ 41 ∷ 38 ∷ 50 ∷ [])  -- (1,3)&2
-    × (formText 3 ((2, 3) ∷ []) ≡ 49 ∷ 38 ∷ 40 ∷ 50 ∷ 44 ∷ 51 ∷ 41 ∷ [])  -- 1&(2,3)
-    × (formText 3 ((1, 2) ∷ (2, 3) ∷ []) ≡ 49 ∷ 44 ∷ 50 ∷ 44 ∷ 51 ∷ [])  -- 1,2,3
-    × (formText 4 ((1, 3) ∷ (1, 4) ∷ (2, 4) ∷ (3, 4) ∷ []) ≡ 40 ∷ 40 ∷ 49 ∷ 44 ∷ 51 ∷ 41 ∷ 38 ∷ 50 ∷ 41 ∷ 44 ∷ 52 ∷ [])  -- ((1,3)&2),4
-    × (firstFour 4 ((1, 3) ∷ (1, 4) ∷ (2, 4) ∷ (3, 4) ∷ []) ≡ none)
-    × (firstFour 4 ((1, 3) ∷ (1, 4) ∷ (2, 4) ∷ []) ≡ some (record { a = 2; b = 1; c = 4; d = 3 }))
-forms = (refl, refl, refl, refl, refl, refl, refl)
 
 -- 3&(2&1) becomes 1&2&3; (3,2),1 becomes 3,2,1; 4&(3,(2,1))&5 becomes (3,2,1)&4&5
 restored

@@ -2,7 +2,6 @@ pub mod Expr
 pub mod Induced
 pub mod Text
 pub mod Search
-pub mod Closure
 pub mod Form
 pub mod Split
 pub mod Restore

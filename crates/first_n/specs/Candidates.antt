@@ -1,10 +1,8 @@
 -- The sets by which the four loops pass over goals that cannot belong to an N. Row i stands for goal i + 1.
-use mathlib.Core.Bool.{cond}
 use mathlib.Core.List.{List}
 use Prim.Native.Nat.{ℕ, zero, suc}
-use lib.Dec.{eqb}
 use lib.ListN.{getD}
-use Rattle.sets.specs.Sets.{union, meet, without, single}
+use Rattle.sets.specs.Sets.{union, meet, without, single, common}
 
 -- the goals that are before some goal, of the first n
 unfoldable pub leading : List ℕ → ℕ → ℕ
@@ -16,21 +14,17 @@ module _ (rows prior : List ℕ) where
   unfoldable pub related : ℕ → ℕ
   related i = union (getD rows i 0) (getD prior i 0)
 
-  -- the goals after it that are not before it
-  unfoldable pub later : ℕ → ℕ
-  later i = without (getD rows i 0) (getD prior i 0)
-
   -- what can be b for a, of the goals that are before some goal
   unfoldable pub seconds : ℕ → ℕ → ℕ
-  seconds lead a = cond (eqb (later a) 0) 0 (without (without lead (related a)) (single a))
+  seconds lead a = without (without lead (related a)) (single a)
 
   -- what can be d for a and b
   unfoldable pub fourths : ℕ → ℕ → ℕ
-  fourths a b = without (later b) (related a)
+  fourths a b = without (getD rows b 0) (related a)
 
-  -- what can be c for a and b
-  unfoldable pub thirds : ℕ → ℕ → ℕ
-  thirds a b = cond (eqb (fourths a b) 0) 0 (meet (later a) (later b))
+  -- what can be c for a and b, of w goals at most: not what every candidate for d is before
+  unfoldable pub thirds : ℕ → ℕ → ℕ → ℕ
+  thirds w a b = without (meet (getD rows a 0) (getD rows b 0)) (common rows w (fourths a b))
 
   -- what is d for a, b and c
   unfoldable pub lasts : ℕ → ℕ → ℕ → ℕ

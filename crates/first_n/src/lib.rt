@@ -1,7 +1,9 @@
 // The first N of an order: goals a, b, c, d with a before c, b before c, b before d and no other order among the four.
+use graph::Graph;
 ghost use mathlib.Core.Path.{_≡_};
 ghost use Prim.Native.Nat.{_<_, _≤_};
 ghost use denote.Ref.{now};
+ghost use Rattle.sets.specs.Sets as S;
 ghost use Rattle.graph.specs.Graph.{ahead, transposed, Within};
 ghost use Rattle.expression.specs.Expr.{Goals};
 ghost use Rattle.expression.specs.Arrange.{Strict};
@@ -23,7 +25,7 @@ pub enum Found {
 }
 
 // The goals that are in order with goal i + 1, either way.
-fn related(rows: &[u32; 32], prior: &[u32; 32], i: usize) -> u32
+fn related(rows: &[u32; Graph::MAX], prior: &[u32; Graph::MAX], i: usize) -> u32
     requires { ⌜ i < 32 ⌝ }
     ensures { λ r. ⌜ r ≡ C.related (now (rows .entry)) (now (prior .entry)) i ⌝ }
 {
@@ -32,18 +34,8 @@ fn related(rows: &[u32; 32], prior: &[u32; 32], i: usize) -> u32
     after | before
 }
 
-// The goals that goal i + 1 is before and that are not before it.
-fn later(rows: &[u32; 32], prior: &[u32; 32], i: usize) -> u32
-    requires { ⌜ i < 32 ⌝ }
-    ensures { λ r. ⌜ r ≡ C.later (now (rows .entry)) (now (prior .entry)) i ⌝ }
-{
-    let after = rows[i];
-    let before = prior[i];
-    sets::without32(after, before)
-}
-
-// The goals that are before some goal.
-fn leading(prior: &[u32; 32], n: usize) -> u32
+// The goals that are before some goal: what can be a or b.
+fn leading(prior: &[u32; Graph::MAX], n: usize) -> u32
     requires { ⌜ n ≤ 32 ⌝ }
     ensures { λ r. ⌜ r ≡ C.leading (now (prior .entry)) n ⌝ }
 {
@@ -55,45 +47,55 @@ fn leading(prior: &[u32; 32], n: usize) -> u32
     set
 }
 
-// The goals that can be b for a: of the leading ones those that are not a and not in order with a. None if no goal is later than a.
-fn seconds(rows: &[u32; 32], prior: &[u32; 32], lead: u32, a: usize) -> u32
+// The goals that can be b for a: of the leading ones those that are not a and not in order with a.
+fn seconds(rows: &[u32; Graph::MAX], prior: &[u32; Graph::MAX], lead: u32, a: usize) -> u32
     requires { ⌜ a < 32 ⌝ }
     ensures { λ r. ⌜ r ≡ C.seconds (now (rows .entry)) (now (prior .entry)) lead a ⌝ }
 {
-    if later(rows, prior, a) == 0 {
-        return 0;
-    }
     let near_a = related(rows, prior, a);
     let apart = sets::without32(lead, near_a);
-    let one = sets::single32(a);
+    let one = Graph::single(a + 1);
     sets::without32(apart, one)
 }
 
-// The goals that can be d for a, b and some c: later than b, and not in order with a.
-fn fourths(rows: &[u32; 32], prior: &[u32; 32], a: usize, b: usize) -> u32
+// The goals that can be d for a, b and some c: after b, and not in order with a.
+fn fourths(rows: &[u32; Graph::MAX], prior: &[u32; Graph::MAX], a: usize, b: usize) -> u32
     requires { ⌜ (a < 32) × (b < 32) ⌝ }
     ensures { λ r. ⌜ r ≡ C.fourths (now (rows .entry)) (now (prior .entry)) a b ⌝ }
 {
-    let after_b = later(rows, prior, b);
     let near_a = related(rows, prior, a);
-    sets::without32(after_b, near_a)
+    sets::without32(rows[b], near_a)
 }
 
-// The goals that can be c for a and b: later than both. None if no goal can be d.
-fn thirds(rows: &[u32; 32], prior: &[u32; 32], a: usize, b: usize) -> u32
-    requires { ⌜ (a < 32) × (b < 32) ⌝ }
-    ensures { λ r. ⌜ r ≡ C.thirds (now (rows .entry)) (now (prior .entry)) a b ⌝ }
+// The goals that every goal of a set is before.
+fn after_all(rows: &[u32; Graph::MAX], set: u32) -> u32
+    ensures { λ r. ⌜ r ≡ S.common (now (rows .entry)) 32 set ⌝ }
 {
-    if fourths(rows, prior, a, b) == 0 {
+    let mut all = sets::below32(Graph::MAX);
+    let mut left = set;
+    while left != 0 {
+        let d = sets::first32(left);
+        all = sets::meet32(all, rows[d]);
+        left = sets::without_first32(left);
+    }
+    all
+}
+
+// The goals that can be c for a and b: after both, and some goal that can be d is not before them.
+fn thirds(rows: &[u32; Graph::MAX], prior: &[u32; Graph::MAX], a: usize, b: usize) -> u32
+    requires { ⌜ (a < 32) × (b < 32) ⌝ }
+    ensures { λ r. ⌜ r ≡ C.thirds (now (rows .entry)) (now (prior .entry)) 32 a b ⌝ }
+{
+    let both = sets::meet32(rows[a], rows[b]);
+    if both == 0 {
         return 0;
     }
-    let after_a = later(rows, prior, a);
-    let after_b = later(rows, prior, b);
-    sets::meet32(after_a, after_b)
+    let after_ds = after_all(rows, fourths(rows, prior, a, b));
+    sets::without32(both, after_ds)
 }
 
 // The goals that are d for a, b and c: those of the candidates that are not in order with c.
-fn lasts(rows: &[u32; 32], prior: &[u32; 32], a: usize, b: usize, c: usize) -> u32
+fn lasts(rows: &[u32; Graph::MAX], prior: &[u32; Graph::MAX], a: usize, b: usize, c: usize) -> u32
     requires { ⌜ (a < 32) × (b < 32) × (c < 32) ⌝ }
     ensures { λ r. ⌜ r ≡ C.lasts (now (rows .entry)) (now (prior .entry)) a b c ⌝ }
 {
@@ -102,47 +104,40 @@ fn lasts(rows: &[u32; 32], prior: &[u32; 32], a: usize, b: usize, c: usize) -> u
     sets::without32(ds, near_c)
 }
 
-// The first N among the goals 1 to n; `prior` is `rows` with every edge turned round. Four loops, left as soon as it is met.
-fn search(rows: &[u32; 32], prior: &[u32; 32], n: usize) -> Found
-    requires { ⌜ (n ≤ 32) × (now prior ≡ transposed n (now rows)) ⌝ }
+// The first N among the goals 1 to n of a strict order; `prior` is `rows` with every edge turned round. Four loops over the goals that can be a, b, c and d, left
+// as soon as it is met.
+pub fn first_n(rows: &[u32; Graph::MAX], prior: &[u32; Graph::MAX], n: usize) -> Found
+    requires { ⌜ (n ≤ 32) × (now prior ≡ transposed 32 n (now rows)) × Strict (ahead (now rows)) (Goals n) × Within 32 n (now rows) ⌝ }
     ensures { λ r. ⌜ F.found r ≡ firstN (ahead (now (rows .entry))) n ⌝ }
 {
     let mut answer = Found::Nothing;
     let lead = leading(prior, n);
-    'found: for a in 0..n {
-        let bs = seconds(rows, prior, lead, a);
-        for b in sets::first32(bs)..n {
-            if sets::has32(bs, b) {
-                let cs = thirds(rows, prior, a, b);
-                for c in sets::first32(cs)..n {
-                    if sets::has32(cs, c) {
-                        let ds = lasts(rows, prior, a, b, c);
-                        for d in sets::first32(ds)..n {
-                            if sets::has32(ds, d) {
-                                answer = Found::At(Four {
-                                    a: a + 1,
-                                    b: b + 1,
-                                    c: c + 1,
-                                    d: d + 1,
-                                });
-                                break 'found;
-                            }
-                        }
+    let mut firsts = lead;
+    'found: while firsts != 0 {
+        let a = sets::first32(firsts);
+        let mut bs = seconds(rows, prior, lead, a);
+        while bs != 0 {
+            let b = sets::first32(bs);
+            let mut cs = thirds(rows, prior, a, b);
+            while cs != 0 {
+                let c = sets::first32(cs);
+                let ds = lasts(rows, prior, a, b, c);
+                for d in sets::first32(ds)..n {
+                    if sets::has32(ds, d) {
+                        answer = Found::At(Four {
+                            a: a + 1,
+                            b: b + 1,
+                            c: c + 1,
+                            d: d + 1,
+                        });
+                        break 'found;
                     }
                 }
+                cs = sets::without_first32(cs);
             }
+            bs = sets::without_first32(bs);
         }
+        firsts = sets::without_first32(firsts);
     }
     answer
-}
-
-// The same for a strict order, which is searched only if two goals cross: there is no N otherwise.
-pub fn first_n(rows: &[u32; 32], prior: &[u32; 32], n: usize) -> Found
-    requires { ⌜ (n ≤ 32) × (now prior ≡ transposed n (now rows)) × Strict (ahead (now rows)) (Goals n) × Within n (now rows) ⌝ }
-    ensures { λ r. ⌜ F.found r ≡ firstN (ahead (now (rows .entry))) n ⌝ }
-{
-    if crossing::some_cross(rows, prior, leading(prior, n)) {
-        return search(rows, prior, n);
-    }
-    Found::Nothing
 }

@@ -83,18 +83,18 @@ module _ (b : List ℕ) (fine : reading b ≡ Fine) where
   pub goals-to : goalCount b ≤ 32
   goals-to = fine-well-formed b fine .goals-to
 
-  rows-agree : (i j : ℕ) → Goals (goalCount b) i → Goals (goalCount b) j → ahead (rowsOf (goalCount b) (before b)) i j ≡ before b i j
-  rows-agree i j p q = rows-say (goalCount b) (before b) i j goals-to (p .0) (p .1) (q .0) (q .1)
+  rows-agree : (i j : ℕ) → Goals (goalCount b) i → Goals (goalCount b) j → ahead (rowsOf 32 (goalCount b) (before b)) i j ≡ before b i j
+  rows-agree i j p q = rows-say 32 (goalCount b) (before b) i j goals-to (p .0) (p .1) (q .0) (q .1)
 
   module _ (g : Graph) (e : g ≡ order b) where
-    pub graph-asks : (1 ≤ g .n) × (g .n ≤ 32) × Strict (ahead (g .rows)) (Goals (g .n)) × Within (g .n) (g .rows)
+    pub graph-asks : (1 ≤ g .n) × (g .n ≤ 32) × Strict (ahead (g .rows)) (Goals (g .n)) × Within 32 (g .n) (g .rows)
     unfolding order
     graph-asks =
-        subst (λ (x : Graph). (1 ≤ x .n) × (x .n ≤ 32) × Strict (ahead (x .rows)) (Goals (x .n)) × Within (x .n) (x .rows)) (sym e)
-        (goals-from, goals-to, strict-rows (ahead (rowsOf (goalCount b) (before b))) (before b) (goalCount b) rows-agree goals-from (before-order b), rows-within (goalCount b) (before b) goals-to)
+        subst (λ (x : Graph). (1 ≤ x .n) × (x .n ≤ 32) × Strict (ahead (x .rows)) (Goals (x .n)) × Within 32 (x .n) (x .rows)) (sym e)
+        (goals-from, goals-to, strict-rows (ahead (rowsOf 32 (goalCount b) (before b))) (before b) (goalCount b) rows-agree goals-from (before-order b), rows-within 32 (goalCount b) (before b) goals-to)
 
     pub graph-plan : settled (firstN (ahead (g .rows)) (g .n)) (text (formAny (ahead (g .rows)) (g .n))) ≡ plan b
     unfolding order
     graph-plan =
         ap (λ (x : Graph). settled (firstN (ahead (x .rows)) (x .n)) (text (formAny (ahead (x .rows)) (x .n)))) e
-        ∙ settled-same (ahead (rowsOf (goalCount b) (before b))) (before b) (goalCount b) rows-agree goals-from (before-order b) ∙ sym (plan-fine b fine)
+        ∙ settled-same (ahead (rowsOf 32 (goalCount b) (before b))) (before b) (goalCount b) rows-agree goals-from (before-order b) ∙ sym (plan-fine b fine)

@@ -39,16 +39,6 @@ module _ (p : Plan) (buf : List ℕ) where
   none-buffer q e = sym (ap (λ (x : Plan). filled x buf) e)
 
   module _ (t : List ℕ) (e : p ≡ written t) where
-    -- the buffer is too short
-    pub short-answer : (need : ℕ) → need ≡ length t → length buf < need → refusal 12 need ≡ answer p buf
-    unfolding answer
-    short-answer need n h =
-        ap (refusal 12) n ∙ sym (ap (λ (b : Bool). cond b (done (length t)) (refusal 12 (length t))) (fits-lt t buf (omega arith))) ∙ sym (ap (λ (x : Plan). answer x buf) e)
-
-    pub short-buffer : length buf < length t → buf ≡ filled p buf
-    unfolding filled
-    short-buffer h = keeps t buf h ∙ sym (ap (λ (x : Plan). filled x buf) e)
-
     -- the text fits
     pub fit-answer : (need : ℕ) → need ≡ length t → need ≤ length buf → done need ≡ answer p buf
     unfolding answer
@@ -58,6 +48,16 @@ module _ (p : Plan) (buf : List ℕ) where
     pub fit-buffer : {end : ℕ} {new : List ℕ} → Wrote t 0 buf end new → length t ≤ length buf → new ≡ filled p buf
     unfolding filled
     fit-buffer w h = stores w h ∙ sym (ap (λ (x : Plan). filled x buf) e)
+
+    -- the buffer is too short
+    pub short-answer : (need : ℕ) → need ≡ length t → length buf < need → refusal 12 need ≡ answer p buf
+    unfolding answer
+    short-answer need n h =
+        ap (refusal 12) n ∙ sym (ap (λ (b : Bool). cond b (done (length t)) (refusal 12 (length t))) (fits-lt t buf (omega arith))) ∙ sym (ap (λ (x : Plan). answer x buf) e)
+
+    pub short-buffer : length buf < length t → buf ≡ filled p buf
+    unfolding filled
+    short-buffer h = keeps t buf h ∙ sym (ap (λ (x : Plan). filled x buf) e)
 
 -- ---- the estimate
 pub estimated-refused : (p : Plan) (k l : ℕ) → p ≡ refused k l → Estimated p (refusal k l)
@@ -77,10 +77,10 @@ pub settled-some : {o : Option Four} (t : List ℕ) (q : Four) → o ≡ some q 
 settled-some t q e = ap (λ (x : Option Four). settled x t) e
 
 module _ (b : List ℕ) where
-  pub plan-refused : (r : Refusal) → reading b ≡ G.Refused r → plan b ≡ refused (r .number) (r .place)
-  unfolding plan
-  plan-refused r e = ap (λ (s : Reading). started s (settled (firstN (before b) (goalCount b)) (T.text (form (before b) (goalCount b))))) e
-
   pub plan-fine : reading b ≡ G.Fine → plan b ≡ settled (firstN (before b) (goalCount b)) (T.text (form (before b) (goalCount b)))
   unfolding plan
   plan-fine e = ap (λ (s : Reading). started s (settled (firstN (before b) (goalCount b)) (T.text (form (before b) (goalCount b))))) e
+
+  pub plan-refused : (r : Refusal) → reading b ≡ G.Refused r → plan b ≡ refused (r .number) (r .place)
+  unfolding plan
+  plan-refused r e = ap (λ (s : Reading). started s (settled (firstN (before b) (goalCount b)) (T.text (form (before b) (goalCount b))))) e

@@ -25,7 +25,7 @@ use Rattle.split.specs.Split.{Has, Ordered, formOf, formText}
 use Rattle.split.proofs.Forms.{form-of}
 
 module _ (rows prior : List ℕ) (n all : ℕ) (from : 1 ≤ n) (to : n ≤ 32) (strict : Strict (ahead rows) (Goals n)) (free : firstN (ahead rows) n ≡ none)
-    (turned : prior ≡ transposed n rows) (full : all ≡ below n) where
+    (turned : prior ≡ transposed 32 n rows) (full : all ≡ below n) where
   has-all : (i : ℕ) → Has all i ↔ Goals n i
   has-all zero = (λ h. absurd (false≢true h), λ h. absurd (omega (arith, h .0)))
   has-all (suc i) = (
@@ -46,7 +46,7 @@ module _ (rows prior : List ℕ) (n all : ℕ) (from : 1 ≤ n) (to : n ≤ 32) 
             λ i j p q.
             let g = has-all i .0 p in
             let h = has-all j .0 q in
-            ap (λ (l : List ℕ). ahead l j i) turned ∙ transposed-says n rows i j to (g .0) (g .1) (h .0) (h .1);
+            ap (λ (l : List ℕ). ahead l j i) turned ∙ transposed-says 32 n rows i j to (g .0) (g .1) (h .0) (h .1);
         some = (1, has-all 1 .1 (omega arith, from));
       }
 
@@ -54,16 +54,16 @@ module _ (rows prior : List ℕ) (n all : ℕ) (from : 1 ≤ n) (to : n ≤ 32) 
   all-lt = let m : 2 ^ n ≤ 2 ^ 32 = pow-mono to in omega (arith, full, pow-pos n)
 
   -- what is written is the form of the order
-  pub text-is : formText false rows all ≡ text (formAny (ahead rows) n)
+  pub text-is : formText 32 false rows all ≡ text (formAny (ahead rows) n)
   unfolding formText
   text-is =
       let f = form-any (ahead rows) n strict (not-found (ahead rows) n free) from in
       ap text
-      (form-eq (ahead rows) (formOf rows all) (formAny (ahead rows) n) (form-of rows prior all all-lt ordered) (house-form (ahead rows) n (formAny (ahead rows) n) f)
+      (form-eq (ahead rows) (formOf 32 rows all) (formAny (ahead rows) n) (form-of rows prior 32 all all-lt ordered) (house-form (ahead rows) n (formAny (ahead rows) n) f)
       has-all)
 
   pub text-short : length (text (formAny (ahead rows) n)) ≤ 146
   text-short = text-fits n (formAny (ahead rows) n) (form-any (ahead rows) n strict (not-found (ahead rows) n free) from .uses) to
 
-  pub room : 0 + length (formText false rows all) < 2 ^ 63
+  pub room : 0 + length (formText 32 false rows all) < 2 ^ 63
   room = omega (arith, ap length text-is, text-short)

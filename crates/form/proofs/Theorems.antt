@@ -78,10 +78,10 @@ module _ (b : List ℕ) where
       λ t. E′.before-is e once i j .0 (h ∙ O′.before-is b i j .1 t),
     )
 
-  has-order : (e : Expr) → Expresses b e → E.HasOrder R n e
+  has-order : (e : Expr) → Expresses b e → E.Matches R n e
   has-order e x i j p q = to-test e (uses-once n e (x .uses)) i j (x .order i j p q)
 
-  expresses : (e : Expr) → UsesOnce n e → E.HasOrder R n e → Expresses b e
+  expresses : (e : Expr) → UsesOnce n e → E.Matches R n e → Expresses b e
   expresses e u h = record { uses = u; order = λ i j p q. of-test e (uses-once n e u) i j (h i j p q) }
 
   -- ---- four goals

@@ -49,17 +49,17 @@ pub record Values : Type 0 where
   pub b : ℕ
   pub c : ℕ
   pub d : ℕ
-  pub length : ℕ
+  pub size : ℕ
 
 abbrev pub refusal : ℕ → ℕ → Values
-refusal number place = record { number = number; place = place; a = 0; b = 0; c = 0; d = 0; length = 0 }
+refusal number place = record { number = number; place = place; a = 0; b = 0; c = 0; d = 0; size = 0 }
 
 -- 01: 13's "place is 0"
 abbrev pub thirteen : Four → Values
-thirteen q = record { number = 13; place = 0; a = q .a; b = q .b; c = q .c; d = q .d; length = 0 }
+thirteen q = record { number = 13; place = 0; a = q .a; b = q .b; c = q .c; d = q .d; size = 0 }
 
 abbrev pub done : ℕ → Values
-done length = record { number = 0; place = 0; a = 0; b = 0; c = 0; d = 0; length = length }
+done size = record { number = 0; place = 0; a = 0; b = 0; c = 0; d = 0; size = size }
 
 -- the values of the operation's answer
 abbrev pub values : Written → Values

@@ -5,20 +5,13 @@ use graph::Graph;
 use reading::Reading;
 use refusal::Refusal;
 ghost use mathlib.Core.Path.{_≡_};
-ghost use mathlib.Core.Bool.{false};
-ghost use Prim.Native.Nat.{_+_, _^_, _≤_, _<_};
-ghost use lib.ListN.{length};
+ghost use Prim.Native.Nat.{_≤_};
 ghost use denote.Ref.{now};
-ghost use Rattle.text.specs.Text.{Wrote};
 ghost use Rattle.graph.specs.Graph.{ahead, Within};
-ghost use Rattle.split.specs.Split.{Ordered, formText};
 ghost use Rattle.expression.specs.Expr.{Goals};
 ghost use Rattle.expression.specs.Arrange.{Strict, formAny};
 ghost use Rattle.expression.specs.Search.{firstN};
 ghost use Rattle.expression.specs.Text as T;
-ghost use Rattle.fields.specs.Fields.{goalCount};
-ghost use Rattle.decoding.specs.Clause.{Holding};
-ghost use Rattle.order.specs.Order as O;
 ghost use Rattle.form.specs.Form as F;
 
 pub enum Written {
@@ -38,18 +31,10 @@ pub enum Estimate {
 // The length of the longest form of 32 goals.
 const LONGEST: usize = 146;
 
-// Writes the text of the form of all goals from the start of the buffer, and gives its length.
-fn put_text(out: &mut [u8], rows: &[u32; 32], prior: &[u32; 32], all: u32) -> usize
-    requires { ⌜ Ordered (now rows) (now prior) all × (0 + length (formText false (now rows) all) < 2 ^ 63) ⌝ }
-    ensures { λ r. ⌜ Wrote (formText false (now (rows .entry)) all) 0 (now (out .entry)) r (now (out .exit)) ⌝ }
-{
-    split::put_form(out, 0, rows, prior, all, false)
-}
-
 // Writes the form of the goals 1 to n in the order that the rows say, any strict order; or refuses with 13, or with 12. A buffer that holds every form
 // needs no counting before the text is stored.
-fn write_rows(rows: &[u32; 32], n: usize, out: &mut [u8]) -> Written
-    requires { ⌜ (1 ≤ n) × (n ≤ 32) × Strict (ahead (now rows)) (Goals n) × Within n (now rows) ⌝ }
+fn write_rows(rows: &[u32; Graph::MAX], n: usize, out: &mut [u8]) -> Written
+    requires { ⌜ (1 ≤ n) × (n ≤ 32) × Strict (ahead (now rows)) (Goals n) × Within 32 n (now rows) ⌝ }
     ensures { λ r.
         ⌜ F.values r
         ≡ F.answer (F.settled (firstN (ahead (now (rows .entry))) n) (T.text (formAny (ahead (now (rows .entry))) n))) (now (out .entry)) ⌝ }
@@ -66,7 +51,7 @@ fn write_rows(rows: &[u32; 32], n: usize, out: &mut [u8]) -> Written
             let room = out.len();
             if room < LONGEST {
                 let mut nowhere = [0u8; 0];
-                let need = put_text(&mut nowhere, rows, &prior, all);
+                let need = split::put_form(&mut nowhere, 0, rows, &prior, all, false);
                 if room < need {
                     return Written::Refused(Refusal {
                         number: 12,
@@ -74,15 +59,15 @@ fn write_rows(rows: &[u32; 32], n: usize, out: &mut [u8]) -> Written
                     });
                 }
             }
-            let end = put_text(out, rows, &prior, all);
+            let end = split::put_form(out, 0, rows, &prior, all, false);
             Written::Done(end)
         }
     }
 }
 
 // The length of that form's text, counted; or refusal 13.
-fn length_rows(rows: &[u32; 32], n: usize) -> Estimate
-    requires { ⌜ (1 ≤ n) × (n ≤ 32) × Strict (ahead (now rows)) (Goals n) × Within n (now rows) ⌝ }
+fn length_rows(rows: &[u32; Graph::MAX], n: usize) -> Estimate
+    requires { ⌜ (1 ≤ n) × (n ≤ 32) × Strict (ahead (now rows)) (Goals n) × Within 32 n (now rows) ⌝ }
     ensures { λ r.
         ⌜ F.Estimated (F.settled (firstN (ahead (now (rows .entry))) n) (T.text (formAny (ahead (now (rows .entry))) n))) (F.estimate r) ⌝ }
 {
@@ -93,32 +78,24 @@ fn length_rows(rows: &[u32; 32], n: usize) -> Estimate
         Found::Nothing => {
             let all = sets::below32(n);
             let mut nowhere = [0u8; 0];
-            let need = put_text(&mut nowhere, rows, &prior, all);
+            let need = split::put_form(&mut nowhere, 0, rows, &prior, all, false);
             Estimate::Length(need)
         }
     }
 }
 
-// The record's order, whose facts `goals` and `pairs` hold. 01: "the closure is taken first".
-fn closed(b: &[u8], goals: &[u64; 32], pairs: &[u64; 64]) -> Graph
-    requires { ⌜ (goalCount (now b) ≤ 32) × Holding (now b) (now goals) (now pairs) ⌝ }
-    ensures { λ r. ⌜ r ≡ O.order (now (b .entry)) ⌝ }
-{
-    order::order_of(b, goals, pairs)
-}
-
-// Writes the form of a record into a lent buffer.
+// Writes the form of a record into a lent buffer. 01: "the closure is taken first".
 pub fn write(b: &[u8], out: &mut [u8]) -> Written
     ensures { λ r. ⌜ F.values r ≡ F.answer (F.plan (now (b .entry))) (now (out .entry)) ⌝ }
     ensures { λ r. ⌜ now (out .exit) ≡ F.filled (F.plan (now (b .entry))) (now (out .entry)) ⌝ }
 {
-    let mut goals = [0u64; 32];
+    let mut goals = [0u64; Graph::MAX];
     let mut pairs = [0u64; 64];
     let s = decoding::read(b, &mut goals, &mut pairs);
     match s {
         Reading::Refused(r) => Written::Refused(r),
         Reading::Fine => {
-            let g = closed(b, &goals, &pairs);
+            let g = order::order_of(b, &goals, &pairs);
             write_rows(&g.rows, g.n, out)
         }
     }
@@ -128,13 +105,13 @@ pub fn write(b: &[u8], out: &mut [u8]) -> Written
 pub fn length(b: &[u8]) -> Estimate
     ensures { λ r. ⌜ F.Estimated (F.plan (now (b .entry))) (F.estimate r) ⌝ }
 {
-    let mut goals = [0u64; 32];
+    let mut goals = [0u64; Graph::MAX];
     let mut pairs = [0u64; 64];
     let s = decoding::read(b, &mut goals, &mut pairs);
     match s {
         Reading::Refused(r) => Estimate::Refused(r),
         Reading::Fine => {
-            let g = closed(b, &goals, &pairs);
+            let g = order::order_of(b, &goals, &pairs);
             length_rows(&g.rows, g.n)
         }
     }

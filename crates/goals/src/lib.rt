@@ -58,12 +58,12 @@ pub fn goal(b: &[u8], at: usize, v: u32, k: usize, s: Reading) -> Reading
     ensures { λ r. ⌜ r ≡ R.goal (now (b .entry)) at s ⌝ }
 {
     let size = b.len();
-    let length = fields::length_at(b, at);
+    let at_length = fields::length_at(b, at);
     let text = fields::text_at(b, at);
     let bad = find_bad(b, text, k);
     let s = reading::also(s, text <= size, 7, size);
     let s = reading::also(s, sets::within(fields::set_at(b, at), v), 8, at);
-    let s = reading::also(s, length_fine(k), 9, length);
+    let s = reading::also(s, length_fine(k), 9, at_length);
     let s = reading::also(s, text + k <= size, 7, size);
     reading::also(s, bad == text + k, 9, bad)
 }

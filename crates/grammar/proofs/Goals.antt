@@ -3,18 +3,18 @@ use mathlib.Core.Path.{_≡_, refl, sym, ap, ap₂, _∙_, subst}
 use mathlib.Core.Bool.{Bool, true, false, _&&_, _||_, cond}
 use mathlib.Core.List.{List, [], _∷_, _++_, append-assoc, append-nil}
 use mathlib.Core.Option.{Option, none, some}
-use mathlib.Core.Logic.{_⊎_, inl, inr, ⊎-elim, dite, _↔_}
-use Prim.Native.Nat.{ℕ, zero, suc, _+_, _<_, _≤_}
+use mathlib.Core.Logic.{⊎-elim, dite, _↔_}
+use Prim.Native.Nat.{ℕ, zero, suc, _+_, _≤_}
 use native.Mathlib.Omega.{arith}
 use native.Mathlib.Decide.{decLe}
 use lib.Dec.{eqb, leb, ltb}
 use lib.ListN.{length}
-use borrow.Author.Tests.{eqb-true, eqb-false, eq-eqb, ne-eqb, leb-true, le-leb, lt-leb, ltb-true, ltb-false, le-ltb}
+use borrow.Author.Tests.{eqb-true, eqb-false, eq-eqb, ne-eqb, leb-true, le-leb, lt-leb, ltb-false, le-ltb}
 use Rattle.expression.specs.Expr.{Expr, goal, join, Members, one, more, times, timesM, UsesOnce}
 use Rattle.expression.specs.Search.{orElse}
 use Rattle.expression.specs.Text.{mark}
 use Rattle.expression.proofs.Search.{never, or-none}
-use Rattle.logic.proofs.Bools.{test, and-true, or-false, or-true, or-l, or-r}
+use Rattle.logic.proofs.Bools.{test, and-true, or-false}
 use Rattle.grammar.specs.Grammar.{Number, single, double, Joined, alone, several, Others, last, next, Member, group, number, parens, Text}
 use Rattle.grammar.specs.Numbers.{Found, found, fresh, grown, scan, numbers, among, fault, missing, misuse}
 use Rattle.grammar.proofs.Signs.{sign-digit}
@@ -53,7 +53,7 @@ mutual
   count-goalsM (more e ms) i = omega (arith, count-append (goals e) (goalsM ms) i, count-goals e i, count-goalsM ms i)
 
 -- ---- the numbers of a text
-abbrev Parts : List ℕ → Type 0
+abbrev pub Parts : List ℕ → Type 0
 Parts u = (at : ℕ) (x : Found) → scan u at (some x) ≡ x ∷ scan u at none
 
 abbrev Finds : List ℕ → List ℕ → List ℕ → ℕ → Type 0
@@ -62,11 +62,11 @@ Finds t gs u at = (end : ℕ) × (values (scan t at none) ≡ gs ++ values (scan
 parts-end : Parts []
 parts-end at x = refl
 
-parts-mark : (k : Bool) (u : List ℕ) → Parts (mark k ∷ u)
+pub parts-mark : (k : Bool) (u : List ℕ) → Parts (mark k ∷ u)
 parts-mark true u at x = refl
 parts-mark false u at x = refl
 
-skip-mark : (k : Bool) (u : List ℕ) (at : ℕ) → scan (mark k ∷ u) at none ≡ scan u (suc at) none
+pub skip-mark : (k : Bool) (u : List ℕ) (at : ℕ) → scan (mark k ∷ u) at none ≡ scan u (suc at) none
 skip-mark true u at = refl
 skip-mark false u at = refl
 
@@ -156,7 +156,7 @@ good-one n met v vs le zero-met h i p = ⊎-elim (λ t. here (eqb-true i v t) (f
     there : cond {A = ℕ} (eqb i v) 1 0 ≡ 0 → (i ≤ n) × (count (v ∷ vs) i + count met i ≤ 1)
     there t = let g = h i (omega arith) in (g .0, omega (arith, g .1))
 
-fault-good : (n : ℕ) (met : List ℕ) (l : List Found) → fault n met l ≡ none → Good n met (values l)
+pub fault-good : (n : ℕ) (met : List ℕ) (l : List Found) → fault n met l ≡ none → Good n met (values l)
 fault-good n met [] h = λ i p. absurd (omega arith)
 fault-good n met (x ∷ l) h =
     let v = x .value in
@@ -175,14 +175,14 @@ good-fault n met (x ∷ l) g =
     ap (λ b. cond b (some (x .place)) (fault n (v ∷ met) l)) t
     ∙ (good-fault n (v ∷ met) l (λ i p. let r = g i (omega arith) in (r .0, omega (arith, r .1))))
 
-missing-none : (n : ℕ) (e : Expr) → missing n e ≡ false → (i : ℕ) → 1 ≤ i → i ≤ n → 1 ≤ times e i
+pub missing-none : (n : ℕ) (e : Expr) → missing n e ≡ false → (i : ℕ) → 1 ≤ i → i ≤ n → 1 ≤ times e i
 missing-none zero e h i lo hi = absurd (omega arith)
 missing-none (suc n) e h i lo hi =
     let t = or-false (eqb (times e (suc n)) 0) (missing n e) h in
     dite (decLe i n) (λ q. missing-none n e (t .1) i lo q)
     (λ q. let same : i ≡ suc n = omega arith in subst (λ z. 1 ≤ times e z) (sym same) (dite (decLe 1 (times e (suc n))) (λ r. r) (λ r. absurd (eqb-false (times e (suc n)) 0 (t .0) (omega arith)))))
 
-none-missing : (n : ℕ) (e : Expr) → ((i : ℕ) → 1 ≤ i → i ≤ n → 1 ≤ times e i) → missing n e ≡ false
+pub none-missing : (n : ℕ) (e : Expr) → ((i : ℕ) → 1 ≤ i → i ≤ n → 1 ≤ times e i) → missing n e ≡ false
 none-missing zero e h = refl
 none-missing (suc n) e h = rw (ne-eqb (times e (suc n)) 0 (λ q. omega (arith, h (suc n) (omega arith) (omega arith)))) (none-missing n e (λ i lo hi. h i lo (omega arith)))
 
@@ -217,50 +217,3 @@ misuse-none d n t e j = (λ h. to h, λ u. back u)
         (λ q. absurd (omega (arith, same i, u i, flag _ _ q)))
         (test (leb 1 i && leb i n))))
         (rw (none-missing n e (λ i lo hi. omega (arith, u i, flag (leb 1 i && leb i n) true (rw (le-leb 1 i lo, le-leb i n hi))))))
-
--- ---- the leftmost number above n or met before
-pub record Leftmost (n : ℕ) (met : List ℕ) (l : List Found) (p : ℕ) : Type 0 where
-  pub earlier : List Found
-  pub here : Found
-  pub later : List Found
-  pub split : l ≡ earlier ++ (here ∷ later)
-  pub place : p ≡ here .place
-  pub wrong : (n < here .value) ⊎ ((among (here .value) met ≡ true) ⊎ (among (here .value) (values earlier) ≡ true))
-  pub fine : Good n met (values earlier)
-
-some-is : (x p : ℕ) → some x ≡ some p → p ≡ x
-some-is x p h = cc
-
-pub fault-leftmost : (n : ℕ) (met : List ℕ) (l : List Found) (p : ℕ) → fault n met l ≡ some p → Leftmost n met l p
-fault-leftmost n met [] p h = absurd (never h)
-fault-leftmost n met (x ∷ l) p h = go (λ i. fault-leftmost n (x .value ∷ met) l p i) (ltb n (x .value) || among (x .value) met) refl h
-  where
-    go : (fault n (x .value ∷ met) l ≡ some p → Leftmost n (x .value ∷ met) l p)
-        → (b : Bool) → (ltb n (x .value) || among (x .value) met) ≡ b → cond b (some (x .place)) (fault n (x .value ∷ met) l) ≡ some p → Leftmost n met (x ∷ l) p
-    go ih true t i =
-        record {
-          earlier = [];
-          here = x;
-          later = l;
-          split = refl;
-          place = some-is (x .place) p i;
-          wrong = ⊎-elim (λ a. inl (ltb-true n (x .value) a)) (λ a. inr (inl a)) (or-true (ltb n (x .value)) (among (x .value) met) t);
-          fine = λ j q. absurd (omega arith);
-        }
-    go ih false t i =
-        let r = ih i in
-        let both = or-false (ltb n (x .value)) (among (x .value) met) t in
-        record {
-          earlier = x ∷ r .earlier;
-          here = r .here;
-          later = r .later;
-          split = ap (λ z. x ∷ z) (r .split);
-          place = r .place;
-          wrong = ⊎-elim (λ a. inl a)
-              (λ a. inr (⊎-elim
-              (λ b. ⊎-elim (λ c. inr (or-l (eqb (r .here .value) (x .value)) (among (r .here .value) (values (r .earlier))) c)) (λ c. inl c) (or-true (eqb (r .here .value) (x .value)) (among (r .here .value) met) b))
-              (λ b. inr (or-r (eqb (r .here .value) (x .value)) (among (r .here .value) (values (r .earlier))) b))
-              a))
-              (r .wrong);
-          fine = good-one n met (x .value) (values (r .earlier)) (ltb-false n (x .value) (both .0)) (among-none (x .value) met (both .1)) (r .fine);
-        }

@@ -36,7 +36,7 @@ module _ (D : ℕ) where
 
   onward-sound : (s : Option State) (p : List ℕ) (at : ℕ) (go : State → Reading) (e : Expr) (G : Type 0) → Ok D p s → onward s at go ≡ accepted e
       → ((s : State) → Ok D p (some s) → go s ≡ accepted e → G) → G
-  onward-sound none p at go e G o h k = absurd (not-both e at h)
+  onward-sound none p at go e G o h k = absurd (not-both e _ h)
   onward-sound (some s) p at go e G o h k = k s o h
 
   pub sound : (t p : List ℕ) (at : ℕ) (s : State) (e : Expr) → Ok D p (some s) → run t at s ≡ accepted e → Joined true D (p ++ t) e

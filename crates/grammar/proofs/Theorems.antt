@@ -1,7 +1,7 @@
 -- The theorems on expressions and their texts. Every name in a statement is one of specs/, here or in `expression`.
 --     T1 to T4      those of `expression`, passed on: sound, complete, unique, short
 --     T7            accepts, refuses, unambiguous: the reader decides the grammar
---     T7, whole     read-text, read-16: what reading a text for n goals gives
+--     T7, whole     read-text, read-16, read-17: what reading a text for n goals gives
 --     T8, a half    form-read, form-same: the text of a house form is read as that form, and the check calls it "same"
 --     texts         text-unique: different house forms have different texts
 use mathlib.Core.Path.{_≡_, ap, _∙_}
@@ -10,10 +10,11 @@ use mathlib.Core.List.{List}
 use mathlib.Core.Logic.{_↔_}
 use Prim.Native.Nat.{ℕ, _≤_, _<_}
 use lib.ListN.{length}
-use Rattle.expression.specs.Expr.{Expr, UsesOnce, HasOrder, HouseForm, before}
+use Rattle.expression.specs.Expr.{Expr, UsesOnce, Matches, HouseForm, before}
 use Rattle.expression.specs.Text.{text}
 pub use Rattle.expression.proofs.Theorems.{order-no-n, induced-no-n, no-four, form-any, form-is, form-unique, text-fits, text-longest}
 use Rattle.grammar.specs.Grammar.{Text, BadAt}
+use Rattle.grammar.specs.Occurrences.{Misused}
 use Rattle.grammar.specs.Reader.{accepted, refused, read}
 use Rattle.grammar.specs.Reading.{refusal, answer, readText}
 use Rattle.grammar.specs.Check.{same, verdict, judged, checked}
@@ -42,8 +43,12 @@ read-text n t e = Readings.read-answer n t e
 pub read-16 : (n : ℕ) (t : List ℕ) (k : ℕ) → (readText n t ≡ refusal 16 k) ↔ ((1 ≤ length t) × (length t ≤ 512) × BadAt 32 t k)
 read-16 n t k = Readings.read-16 n t k
 
+-- and so has refusal 17.
+pub read-17 : (n : ℕ) (t : List ℕ) (p : ℕ) → (readText n t ≡ refusal 17 p) ↔ ((1 ≤ length t) × (length t ≤ 512) × Misused n t p)
+read-17 n t p = Readings.read-17 n t p
+
 -- T8, its half: the text of a house form is read as that form, and so with its order ..
-pub form-read : (R : ℕ → ℕ → Bool) (n : ℕ) (e : Expr) → HouseForm R n e → n ≤ 32 → (readText n (text e) ≡ answer e) × HasOrder R n e
+pub form-read : (R : ℕ → ℕ → Bool) (n : ℕ) (e : Expr) → HouseForm R n e → n ≤ 32 → (readText n (text e) ≡ answer e) × Matches R n e
 form-read R n e f h = (Written.written-read n e (f .uses) h, f .order)
 
 -- .. and the check calls it "same".

@@ -6,31 +6,43 @@ use mathlib.Core.Logic.{_⊎_, inl, inr, dite}
 use Prim.Native.Nat.{ℕ, zero, suc, _+_, _-_, _*_, _/_, _%_, _^_, _≤_, _<_}
 use native.Mathlib.Decide.{decLt}
 use native.Mathlib.Omega.{arith}
-use lib.Dec.{eqb}
-use lib.ListN.{length, set, getD, length-set}
-use lib.Pow.{pow-mono}
+use lib.Dec.{eqb, ltb}
+use lib.ListN.{length, set, getD, length-set, List·getD-eq-default}
+use lib.Pow.{pow-pos, pow-mono}
 use lib.Seq.{getD-set-same, getD-set-other}
-use borrow.Author.Tests.{eq-eqb, ne-eqb, eqb-true, eqb-false}
+use borrow.Author.Tests.{eq-eqb, ne-eqb, eqb-true, eqb-false, lt-ltb, le-ltb, ltb-true, ltb-false}
+use Rattle.logic.proofs.Bools.{by-test}
 use Rattle.sets.specs.Sets.{has}
 use Rattle.sets.proofs.Laws.{has-above, has-empty, none-empty, below-of}
-use Rattle.graph.specs.Graph.{ahead, rowsOf, Within, transposed}
-use Rattle.graph.specs.Exchange.{Words, bit, Width, nearBit, farBit, Row, Block, Exchanged}
+use Rattle.sets.proofs.Builder.{setOf-lt, setOf-ext, has-setOf-in}
+use Rattle.arrays.specs.Table.{table}
+use Rattle.arrays.proofs.Table.{table-length, table-at, table-past, table-ext}
+use Rattle.graph.specs.Graph.{ahead, rowsOf, Words, Within, transposed}
+use Rattle.graph.specs.Exchange.{Width, nearBit, farBit, Row, Block, rowAfter, round}
 use Rattle.graph.proofs.Rows.{rows-length, row-past, row-lt, rows-ext}
-use Rattle.graph.proofs.Widths.{width-some, zero-top, one-from, near-row, far-row, next-block, first-block, alike, partner-up, partner-down, past-block, under-width, from-width, from-twice, under-twice}
+use Rattle.graph.proofs.Widths.{width-some, zero-top, near-row, far-row, next-block, first-block, alike, partner-up, partner-down, past-block, in-block, block-down, under-width, from-width, from-twice, under-twice}
+
+-- bit j of row i
+abbrev bit : List ℕ → ℕ → ℕ → Bool
+bit rows i j = has (getD rows i 0) j
+
+-- the bits have come to rows and columns of which all digits of weight s and more are exchanged
+abbrev Exchanged : ℕ → List ℕ → List ℕ → Type 0
+Exchanged s old new = (i j : ℕ) → i < 32 → j < 32 → bit new i j ≡ bit old (j / s * s + i % s) (i / s * s + j % s)
 
 -- ---- one block
 -- The state of the loop over a block's rows: those below i, and as many from the middle on, are done.
 pub record Mixed (w start : ℕ) (old : List ℕ) (i : ℕ) (rows : List ℕ) : Type 0 where
   pub from : start ≤ i
   pub to : i ≤ start + w
-  pub words : Words rows
+  pub words : Words 32 rows
   pub near : (r : ℕ) → start ≤ r → r < i → Row w old r (getD rows r 0)
   pub far : (r : ℕ) → start + w ≤ r → r < i + w → Row w old r (getD rows r 0)
   pub before : (r : ℕ) → r < start → getD rows r 0 ≡ getD old r 0
   pub between : (r : ℕ) → i ≤ r → r < start + w → getD rows r 0 ≡ getD old r 0
   pub after : (r : ℕ) → i + w ≤ r → getD rows r 0 ≡ getD old r 0
 
-pub mixed-start : (w start : ℕ) (old : List ℕ) → Words old → Mixed w start old start old
+pub mixed-start : (w start : ℕ) (old : List ℕ) → Words 32 old → Mixed w start old start old
 mixed-start w start old l =
     record {
       from = omega arith;
@@ -128,13 +140,13 @@ Same orig w i j =
 
 -- The state of the loop over the blocks: the rows below `start` are done.
 pub record Through (w : ℕ) (old : List ℕ) (start : ℕ) (rows : List ℕ) : Type 0 where
-  pub words : Words rows
+  pub words : Words 32 rows
   pub whole : start % (2 * w) ≡ 0
   pub done : (r : ℕ) → r < start → Row w old r (getD rows r 0)
   pub left : (r : ℕ) → start ≤ r → getD rows r 0 ≡ getD old r 0
 
 module _ (w : ℕ) (is : Width w) where
-  pub through-start : (old : List ℕ) → Words old → Through w old 0 old
+  pub through-start : (old : List ℕ) → Words 32 old → Through w old 0 old
   through-start old s = record { words = s; whole = first-block w is; done = λ r l. absurd (omega arith); left = λ r l. refl }
 
   module _ (old : List ℕ) (start : ℕ) (rows : List ℕ) (t : Through w old start rows) where
@@ -159,17 +171,81 @@ module _ (w : ℕ) (is : Width w) where
             = dite (decLt r (start + w)) (λ d. absurd (eqb-false (r / w % 2) 0 e (near-row w is start r (t .whole) a d))) (λ d. omega arith) in
             ap₂ (λ (p q : ℕ). farBit w p q j) (t .left (r - w) (omega arith)) (t .left r a)
 
+  -- the rows of the blocks that begin below n are those after the round, the others are as they were
+  record Rounded (n : ℕ) (old rows : List ℕ) : Type 0 where
+    words : Words 32 rows
+    done : (r : ℕ) → r < 32 → r / (2 * w) * (2 * w) < n → Row w old r (getD rows r 0)
+    left : (r : ℕ) → n ≤ r / (2 * w) * (2 * w) → getD rows r 0 ≡ getD old r 0
+
+  -- row r of a round
+  abbrev rowOf : ℕ → List ℕ → ℕ → ℕ
+  rowOf n old r = cond (ltb (r / (2 * w) * (2 * w)) n) (rowAfter w old r) (getD old r 0)
+
+  after-has : (old : List ℕ) (r : ℕ) → Row w old r (rowAfter w old r)
+  unfolding rowAfter
+  after-has old r j l =
+      has-setOf-in 32
+      (λ j. cond (eqb (r / w % 2) 0) (nearBit w (getD old r 0) (getD old (r + w) 0) j) (farBit w (getD old (r - w) 0) (getD old r 0) j)) j l
+
+  -- all blocks that begin below n are done
+  pub through-end : (n : ℕ) (old : List ℕ) (start : ℕ) (rows : List ℕ) → Through w old start rows → n ≤ start → start < n + 2 * w → w < n
+      → rows ≡ round w n old
+  unfolding round rowAfter
+  through-end n old start rows t l u h =
+      table-ext 32 32 (rowOf n old) rows (t .words .size)
+      (λ r b k.
+      by-test (λ (m : ℕ). getD rows r 0 ≡ m) (ltb (r / (2 * w) * (2 * w)) n)
+      (λ e.
+      let d : r < start = dite (decLt r start) (λ d. d) (λ d. absurd (omega (arith, ltb-true (r / (2 * w) * (2 * w)) n e, past-block w is start r (t .whole) (omega arith)))) in
+      setOf-ext 32 (getD rows r 0)
+      (λ j. cond (eqb (r / w % 2) 0) (nearBit w (getD old r 0) (getD old (r + w) 0) j) (farBit w (getD old (r - w) 0) (getD old r 0) j)) (t .words .small r)
+      (t .done r d))
+      (λ e. t .left r (dite (decLt r start) (λ d. absurd (omega (arith, ltb-false (r / (2 * w) * (2 * w)) n e, in-block w is start r (t .whole) d))) (λ d. omega arith))))
+      (λ r b k. absurd (omega arith))
+      ∙ sym (ap (λ (q : Bool). cond q (table 32 32 (rowOf n old)) old) (lt-ltb w n h))
+
+  rounded : (n : ℕ) (old : List ℕ) → Words 32 old → Rounded n old (table 32 32 (rowOf n old))
+  unfolding rowAfter
+  rounded n old s =
+      record {
+        words = record { size = table-length 32 32 (rowOf n old); small = λ r. dite (decLt r 32) (low r) (past r) };
+        done =
+            λ r l d.
+            subst (Row w old r)
+            (sym (table-at 32 32 (rowOf n old) r l l ∙ ap (λ (q : Bool). cond q (rowAfter w old r) (getD old r 0)) (lt-ltb (r / (2 * w) * (2 * w)) n d)))
+            (after-has old r);
+        left = λ r d. dite (decLt r 32) (kept r d) (λ k. none-past r k ∙ sym (List·getD-eq-default old 0 {n = r} (omega (arith, s .size))));
+      }
+    where
+      none-past : (r : ℕ) → (r < 32 → ⊥) → getD (table 32 32 (rowOf n old)) r 0 ≡ 0
+      none-past r k = table-past 32 32 (rowOf n old) r (omega arith)
+
+      kept : (r : ℕ) → n ≤ r / (2 * w) * (2 * w) → r < 32 → getD (table 32 32 (rowOf n old)) r 0 ≡ getD old r 0
+      kept r d l =
+          table-at 32 32 (rowOf n old) r l l ∙ ap (λ (q : Bool). cond q (rowAfter w old r) (getD old r 0)) (le-ltb (r / (2 * w) * (2 * w)) n d)
+
+      low : (r : ℕ) → r < 32 → getD (table 32 32 (rowOf n old)) r 0 < 2 ^ 32
+      low r l =
+          subst (λ (m : ℕ). m < 2 ^ 32) (sym (table-at 32 32 (rowOf n old) r l l))
+          (by-test (λ (m : ℕ). m < 2 ^ 32) (ltb (r / (2 * w) * (2 * w)) n) (λ e. setOf-lt 32 _) (λ e. s .small r))
+
+      past : (r : ℕ) → (r < 32 → ⊥) → getD (table 32 32 (rowOf n old)) r 0 < 2 ^ 32
+      past r k = subst (λ (m : ℕ). m < 2 ^ 32) (sym (none-past r k)) (pow-pos 32)
+
+  pub round-words : (n : ℕ) (old rows : List ℕ) → Words 32 old → rows ≡ round w n old → Words 32 rows
+  unfolding round
+  round-words n old rows s e = subst (Words 32) (sym e) (by-test (Words 32) (ltb w n) (λ h. rounded n old s .words) (λ h. s))
+
   module _ (n : ℕ) (orig : List ℕ) (none : (i j : ℕ) → (n ≤ i) ⊎ (n ≤ j) → bit orig i j ≡ false) where
-    -- all blocks that have something are done
-    pub through-end : (old : List ℕ) (start : ℕ) (rows : List ℕ) → Through w old start rows → n ≤ start → Exchanged (2 * w) orig old → Exchanged w orig rows
-    through-end old start rows t l ex i j li lj = dite (decLt i start) (λ d. t .done i d j lj ∙ go (eqb (i / w % 2) 0) (eqb (j / w % 2) 0) refl refl) outside
+    rounded-next : (old rows : List ℕ) → Rounded n old rows → Exchanged (2 * w) orig old → Exchanged w orig rows
+    rounded-next old rows t ex i j li lj =
+        dite (decLt (i / (2 * w) * (2 * w)) n) (λ d. t .done i li d j lj ∙ go (eqb (i / w % 2) 0) (eqb (j / w % 2) 0) refl refl) outside
       where
-        outside : (i < start → ⊥) → bit rows i j ≡ bit orig (j / w * w + i % w) (i / w * w + j % w)
+        outside : (i / (2 * w) * (2 * w) < n → ⊥) → bit rows i j ≡ bit orig (j / w * w + i % w) (i / w * w + j % w)
         outside d =
-            let p = past-block w is start i (t .whole) (omega arith) in
             ap (λ (z : ℕ). has z j) (t .left i (omega arith)) ∙ ex i j li lj
-            ∙ none (j / (2 * w) * (2 * w) + i % (2 * w)) (i / (2 * w) * (2 * w) + j % (2 * w)) (inr (omega (arith, p .0)))
-            ∙ sym (none (j / w * w + i % w) (i / w * w + j % w) (inr (omega (arith, p .1))))
+            ∙ none (j / (2 * w) * (2 * w) + i % (2 * w)) (i / (2 * w) * (2 * w) + j % (2 * w)) (inr (omega arith))
+            ∙ sym (none (j / w * w + i % w) (i / w * w + j % w) (inr (omega (arith, block-down w is i))))
 
         go : (p q : Bool) → eqb (i / w % 2) 0 ≡ p → eqb (j / w % 2) 0 ≡ q
             → cond p (cond q (bit old i j) (bit old (i + w) (j - w))) (cond q (bit old (i - w) (j + w)) (bit old i j))
@@ -193,7 +269,7 @@ module _ (w : ℕ) (is : Width w) where
             ex i j li lj ∙ ap₂ (bit orig) (alike w is i j s) (alike w is j i (sym s))
 
     -- nothing is at places of this width
-    pub through-none : (rows : List ℕ) → n ≤ w → Exchanged (2 * w) orig rows → Exchanged w orig rows
+    through-none : (rows : List ℕ) → n ≤ w → Exchanged (2 * w) orig rows → Exchanged w orig rows
     through-none rows l ex i j li lj = ex i j li lj ∙ dite (decLt i w) (λ a. dite (decLt j w) (λ b. both a b) wide) tall
       where
         both : i < w → j < w → Same orig w i j
@@ -217,25 +293,32 @@ module _ (w : ℕ) (is : Width w) where
             dite (decLt j (2 * w)) (λ d. empty (inr (omega (arith, under-twice w is j d c))) (inl (omega (arith, from-width w is j c))))
             (λ d. empty (inl (omega (arith, from-twice w is j (omega arith)))) (inl (omega (arith, from-width w is j c))))
 
--- ---- all rounds
-pub within-none : (n : ℕ) (rows : List ℕ) → n ≤ 32 → Within n rows → (i j : ℕ) → (n ≤ i) ⊎ (n ≤ j) → bit rows i j ≡ false
-within-none n rows h e i j (inl l) = ap (λ (z : List ℕ). bit z i j) e ∙ ap (λ (m : ℕ). has m j) (row-past n (ahead rows) i l) ∙ has-empty j
-within-none n rows h e i j (inr l) = ap (λ (z : List ℕ). bit z i j) e ∙ has-above n (getD (rowsOf n (ahead rows)) i 0) j (row-lt n (ahead rows) i h) l
+    -- after a round the digits of this weight are exchanged too
+    round-next : (old rows : List ℕ) → Words 32 old → rows ≡ round w n old → Exchanged (2 * w) orig old → Exchanged w orig rows
+    unfolding round
+    round-next old rows s e ex =
+        subst (Exchanged w orig) (sym e)
+        (by-test (Exchanged w orig) (ltb w n) (λ h. rounded-next old _ (rounded n old s) ex) (λ h. through-none old (ltb-false w n h) ex))
 
-pub within-words : (n : ℕ) (rows : List ℕ) → n ≤ 32 → Within n rows → Words rows
+-- ---- all rounds
+within-none : (n : ℕ) (rows : List ℕ) → n ≤ 32 → Within 32 n rows → (i j : ℕ) → (n ≤ i) ⊎ (n ≤ j) → bit rows i j ≡ false
+within-none n rows h e i j (inl l) = ap (λ (z : List ℕ). bit z i j) e ∙ ap (λ (m : ℕ). has m j) (row-past 32 n (ahead rows) i l) ∙ has-empty j
+within-none n rows h e i j (inr l) = ap (λ (z : List ℕ). bit z i j) e ∙ has-above n (getD (rowsOf 32 n (ahead rows)) i 0) j (row-lt 32 n (ahead rows) i h) l
+
+pub within-words : (n : ℕ) (rows : List ℕ) → n ≤ 32 → Within 32 n rows → Words 32 rows
 within-words n rows h e =
     record {
-      size = ap length e ∙ rows-length n (ahead rows);
-      small = λ i. let b : 2 ^ n ≤ 2 ^ 32 = pow-mono h in subst (λ (z : List ℕ). getD z i 0 < 2 ^ 32) (sym e) (omega (arith, row-lt n (ahead rows) i h));
+      size = ap length e ∙ rows-length 32 n (ahead rows);
+      small = λ i. let b : 2 ^ n ≤ 2 ^ 32 = pow-mono h in subst (λ (z : List ℕ). getD z i 0 < 2 ^ 32) (sym e) (omega (arith, row-lt 32 n (ahead rows) i h));
     }
 
-pub exchanged-start : (rows : List ℕ) → Exchanged 32 rows rows
+exchanged-start : (rows : List ℕ) → Exchanged 32 rows rows
 exchanged-start rows i j li lj =
     let a : i ≡ j / 32 * 32 + i % 32 = omega arith in
     let b : j ≡ i / 32 * 32 + j % 32 = omega arith in
     ap₂ (bit rows) a b
 
-module _ (n : ℕ) (rows : List ℕ) (h : n ≤ 32) (e : Within n rows) (new : List ℕ) (l : Words new)
+module _ (n : ℕ) (rows : List ℕ) (h : n ≤ 32) (e : Within 32 n rows) (new : List ℕ) (l : Words 32 new)
     (ex : Exchanged 1 rows new) where
   turned : (i j : ℕ) → i < 32 → j < 32 → bit new i j ≡ bit rows j i
   turned i j a b =
@@ -250,13 +333,41 @@ module _ (n : ℕ) (rows : List ℕ) (h : n ≤ 32) (e : Within n rows) (new : L
       other (inl y) = inr y
       other (inr y) = inl y
 
-  pub exchanged-end : new ≡ transposed n rows
+  exchanged-end : new ≡ transposed 32 n rows
   unfolding transposed
   exchanged-end =
-      rows-ext n (λ j i. ahead rows i j) new h (l .size) (λ i k. below-of n (getD new i 0) (λ j d. nothing i j (omega arith) (inr d))) say
+      rows-ext 32 n (λ j i. ahead rows i j) new h (l .size) (λ i k. below-of n (getD new i 0) (λ j d. nothing i j (omega arith) (inr d))) say
       (λ i a d. none-empty (getD new i 0) (λ j. nothing i j a (inl d)))
     where
       say : (i j : ℕ) → 1 ≤ i → i ≤ n → 1 ≤ j → j ≤ n → ahead new i j ≡ ahead rows j i
       say zero j a b c d = absurd (omega arith)
       say (suc i) zero a b c d = absurd (omega arith)
       say (suc i) (suc j) a b c d = turned i j (omega arith) (omega arith)
+
+-- the five rounds turn the rows
+module _ (n : ℕ) (rows : List ℕ) (h : n ≤ 32) (i : Within 32 n rows) (a b c d e : List ℕ) (ea : a ≡ round 16 n rows) (eb : b ≡ round 8 n a)
+    (ec : c ≡ round 4 n b) (ed : d ≡ round 2 n c) where
+  after-16 : Words 32 a × Exchanged 16 rows a
+  after-16 =
+      let s = within-words n rows h i in
+      (round-words 16 (inl refl) n rows a s ea, round-next 16 (inl refl) n rows (within-none n rows h i) rows a s ea (exchanged-start rows))
+
+  after-8 : Words 32 b × Exchanged 8 rows b
+  after-8 =
+      let (s, x) = after-16 in
+      (round-words 8 (inr (inl refl)) n a b s eb, round-next 8 (inr (inl refl)) n rows (within-none n rows h i) a b s eb x)
+
+  after-4 : Words 32 c × Exchanged 4 rows c
+  after-4 =
+      let (s, x) = after-8 in
+      (round-words 4 (inr (inr (inl refl))) n b c s ec, round-next 4 (inr (inr (inl refl))) n rows (within-none n rows h i) b c s ec x)
+
+  after-2 : Words 32 d × Exchanged 2 rows d
+  after-2 =
+      let (s, x) = after-4 in
+      (round-words 2 (inr (inr (inr (inl refl)))) n c d s ed, round-next 2 (inr (inr (inr (inl refl)))) n rows (within-none n rows h i) c d s ed x)
+
+  pub five-rounds : e ≡ round 1 n d → e ≡ transposed 32 n rows
+  five-rounds ee =
+      let (s, x) = after-2 in
+      exchanged-end n rows h i e (round-words 1 (inr (inr (inr (inr refl)))) n d e s ee) (round-next 1 (inr (inr (inr (inr refl)))) n rows (within-none n rows h i) d e s ee x)

@@ -86,6 +86,16 @@ module _ (w : ℕ) (is : Width w) where
       by-width (λ w. (n i : ℕ) → n % (2 * w) ≡ 0 → n ≤ i → (n ≤ i / (2 * w) * (2 * w)) × (n ≤ i / w * w))
       (λ n i a b. (omega arith, omega arith)) (λ n i a b. (omega arith, omega arith)) (λ n i a b. (omega arith, omega arith)) (λ n i a b. (omega arith, omega arith)) (λ n i a b. (omega arith, omega arith)) w is
 
+  -- a place before a block's start is in a block before it
+  pub in-block : (start i : ℕ) → start % (2 * w) ≡ 0 → i < start → i / (2 * w) * (2 * w) + 2 * w ≤ start
+  in-block =
+      by-width (λ w. (start i : ℕ) → start % (2 * w) ≡ 0 → i < start → i / (2 * w) * (2 * w) + 2 * w ≤ start)
+      (λ n i a b. omega arith) (λ n i a b. omega arith) (λ n i a b. omega arith) (λ n i a b. omega arith) (λ n i a b. omega arith) w is
+
+  pub block-down : (i : ℕ) → i / (2 * w) * (2 * w) ≤ i / w * w
+  block-down =
+      by-width (λ w. (i : ℕ) → i / (2 * w) * (2 * w) ≤ i / w * w) (λ i. omega arith) (λ i. omega arith) (λ i. omega arith) (λ i. omega arith) (λ i. omega arith) w is
+
   pub under-width : (i : ℕ) → i < w → i / w % 2 ≡ 0
   under-width =
       by-width (λ w. (i : ℕ) → i < w → i / w % 2 ≡ 0) (λ i l. omega arith) (λ i l. omega arith) (λ i l. omega arith) (λ i l. omega arith) (λ i l. omega arith) w is

@@ -4,20 +4,12 @@ use mathlib.Core.Path.{_≡_}
 use mathlib.Core.Bool.{Bool, cond}
 use mathlib.Core.List.{List}
 use mathlib.Core.Logic.{_⊎_}
-use Prim.Native.Nat.{ℕ, _+_, _-_, _*_, _/_, _%_, _^_, _≤_, _<_}
-use lib.Dec.{eqb}
-use lib.ListN.{length, getD}
+use Prim.Native.Nat.{ℕ, _+_, _-_, _*_, _/_, _%_, _≤_, _<_}
+use lib.Dec.{eqb, ltb}
+use lib.ListN.{getD}
 use Rattle.sets.specs.Sets.{has, setOf}
-use Rattle.graph.specs.Graph.{Within}
-
--- the rows are 32 words of 32 bits
-pub record Words (rows : List ℕ) : Type 0 where
-  pub size : length rows ≡ 32
-  pub small : (i : ℕ) → getD rows i 0 < 2 ^ 32
-
--- bit j of row i
-abbrev pub bit : List ℕ → ℕ → ℕ → Bool
-bit rows i j = has (getD rows i 0) j
+use Rattle.arrays.specs.Table.{table}
+use Rattle.graph.specs.Graph.{Words}
 
 -- the widths of the rounds
 abbrev pub Width : ℕ → Type 0
@@ -49,14 +41,16 @@ Row w rows i m =
 
 -- one block of a round: of the 32 rows those from `start` on, twice the width, are those after the round, the others are as they were
 pub record Block (w start : ℕ) (old new : List ℕ) : Type 0 where
-  pub words : Words new
+  pub words : Words 32 new
   pub inside : (i : ℕ) → start ≤ i → i < start + 2 * w → Row w old i (getD new i 0)
   pub outside : (i : ℕ) → (i < start) ⊎ (start + 2 * w ≤ i) → getD new i 0 ≡ getD old i 0
 
--- the bits have come to rows and columns of which all digits of weight s and more are exchanged
-abbrev pub Exchanged : ℕ → List ℕ → List ℕ → Type 0
-Exchanged s old new = (i j : ℕ) → i < 32 → j < 32 → bit new i j ≡ bit old (j / s * s + i % s) (i / s * s + j % s)
+-- row i after a round
+unfoldable pub rowAfter : ℕ → List ℕ → ℕ → ℕ
+rowAfter w rows i =
+    setOf 32
+    (λ j. cond (eqb (i / w % 2) 0) (nearBit w (getD rows i 0) (getD rows (i + w) 0) j) (farBit w (getD rows (i - w) 0) (getD rows i 0) j))
 
--- one round
-abbrev pub Round : ℕ → ℕ → List ℕ → List ℕ → Type 0
-Round w n from to = (old : List ℕ) → Within n old → Exchanged (2 * w) old from → Exchanged w old to
+-- the rows after a round over the blocks that begin below n; none does anything unless the width is below n
+unfoldable pub round : ℕ → ℕ → List ℕ → List ℕ
+round w n rows = cond (ltb w n) (table 32 32 (λ i. cond (ltb (i / (2 * w) * (2 * w)) n) (rowAfter w rows i) (getD rows i 0))) rows

@@ -2,8 +2,8 @@
 use mathlib.Core.Path.{_≡_}
 use mathlib.Core.Bool.{Bool, false}
 use mathlib.Core.List.{List}
-use Prim.Native.Nat.{ℕ, zero, suc}
-use lib.ListN.{getD, replicate}
+use Prim.Native.Nat.{ℕ, zero, suc, _^_, _<_}
+use lib.ListN.{length, getD, replicate}
 use Rattle.sets.specs.Sets.{has, setOf}
 use Rattle.arrays.specs.Table.{table}
 use Rattle.graph.specs.declared.Graph.{Graph}
@@ -26,22 +26,27 @@ behind rows i j = ahead rows j i
 unfoldable pub goalsOf : ℕ → (ℕ → Bool) → ℕ
 goalsOf n f = setOf n (λ i. f (suc i))
 
--- the rows of a relation on the goals 1 to n: row g - 1 has the goals h with R g h, the rows past n are zero
-unfoldable pub rowsOf : ℕ → (ℕ → ℕ → Bool) → List ℕ
-rowsOf n R = table 32 n (λ i. goalsOf n (R (suc i)))
+-- the w rows of a relation on the goals 1 to n: row g - 1 has the goals h with R g h, the rows past n are zero
+unfoldable pub rowsOf : ℕ → ℕ → (ℕ → ℕ → Bool) → List ℕ
+rowsOf w n R = table w n (λ i. goalsOf n (R (suc i)))
 
 -- the graph of a relation on the goals 1 to n
 abbrev pub graphOf : ℕ → (ℕ → ℕ → Bool) → Graph
-graphOf n R = record { n = n; rows = rowsOf n R }
+graphOf n R = record { n = n; rows = rowsOf 32 n R }
 
 -- the graph of n goals without an edge
 abbrev pub edgeless : ℕ → Graph
 edgeless n = record { n = n; rows = replicate 32 0 }
 
--- the rows have nothing but pairs of the goals 1 to n
-abbrev pub Within : ℕ → List ℕ → Type 0
-Within n rows = rows ≡ rowsOf n (ahead rows)
+-- w rows of w bits each: what the type of an array of rows says, and a reference to it does not tell
+pub record Words (w : ℕ) (rows : List ℕ) : Type 0 where
+  pub size : length rows ≡ w
+  pub small : (i : ℕ) → getD rows i 0 < 2 ^ w
+
+-- the rows are w, and have nothing but pairs of the goals 1 to n
+abbrev pub Within : ℕ → ℕ → List ℕ → Type 0
+Within w n rows = rows ≡ rowsOf w n (ahead rows)
 
 -- the rows of the goals 1 to n with every edge turned round
-unfoldable pub transposed : ℕ → List ℕ → List ℕ
-transposed n rows = rowsOf n (λ j i. ahead rows i j)
+unfoldable pub transposed : ℕ → ℕ → List ℕ → List ℕ
+transposed w n rows = rowsOf w n (λ j i. ahead rows i j)

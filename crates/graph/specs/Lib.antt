@@ -1,2 +1,4 @@
 pub mod Graph
 pub mod Exchange
+pub mod Closure
+pub mod Passes

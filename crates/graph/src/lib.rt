@@ -1,11 +1,14 @@
 // The dependency graph of a clause by value: the goal count, and for each goal the set of goals that it is before.
 ghost use mathlib.Core.Path.{_≡_};
+ghost use mathlib.Core.Bool.{cond, true};
 ghost use Prim.Native.Nat.{_+_, _-_, _*_, _%_, _≤_, _<_};
 ghost use denote.Ref.{now};
 ghost use lib.ListN.{getD};
 ghost use Rattle.sets.specs.Sets as S;
 ghost use Rattle.graph.specs.Graph as G;
 ghost use Rattle.graph.specs.Exchange as X;
+ghost use Rattle.graph.specs.Closure as C;
+ghost use Rattle.graph.specs.Passes as P;
 
 // Row g - 1 is the set of the goals that goal g is before, goal h at bit h - 1; rows past the count are zero.
 pub struct Graph {
@@ -41,6 +44,97 @@ impl Graph {
         let i = g - 1;
         self.rows[i]
     }
+
+    // The closure: passes up to the first that adds nothing.
+    pub fn closed(self) -> Graph
+        requires { ⌜ C.IsGraph self ⌝ }
+        ensures { λ r. ⌜ r ≡ C.closing self ⌝ }
+    {
+        let n = self.n;
+        let all = sets::below32(n);
+        let mut rows = self.rows;
+        loop {
+            let still = pass(&mut rows, n);
+            if still == all {
+                return Graph { n, rows };
+            }
+        }
+    }
+}
+
+// The row with the rows of its goals.
+fn joined(rows: &[u32; Graph::MAX], row: u32) -> u32
+    ensures { λ r. ⌜ r ≡ P.gather 32 (now (rows .entry)) row row ⌝ }
+{
+    let mut all = row;
+    let mut left = row;
+    while left != 0 {
+        let k = sets::first32(left);
+        left = sets::without_first32(left);
+        all = sets::union32(all, rows[k]);
+    }
+    all
+}
+
+// The same for a row whose goals are all of `still`: the goals of their rows lead to nothing new, and are passed over.
+fn joined_still(rows: &[u32; Graph::MAX], row: u32, still: u32) -> u32
+    requires { ⌜ P.Still (now rows) still × (S.subset row still ≡ true) ⌝ }
+    ensures { λ r. ⌜ r ≡ P.gather 32 (now (rows .entry)) row row ⌝ }
+{
+    let mut all = row;
+    let mut left = row;
+    while left != 0 {
+        let k = sets::first32(left);
+        let via = rows[k];
+        all = sets::union32(all, via);
+        left = sets::without32(sets::without_first32(left), via);
+    }
+    all
+}
+
+// The same by the shorter way, where there is one.
+fn row_pass(rows: &[u32; Graph::MAX], row: u32, still: u32) -> u32
+    requires { ⌜ P.Still (now rows) still ⌝ }
+    ensures { λ r. ⌜ r ≡ P.gather 32 (now (rows .entry)) row row ⌝ }
+{
+    if sets::subset32(row, still) {
+        return joined_still(rows, row, still);
+    }
+    joined(rows, row)
+}
+
+// The set with goal i + 1 in it, if its row is as it was.
+fn kept(still: u32, i: usize, same: bool) -> u32
+    requires { ⌜ i < 32 ⌝ }
+    ensures { λ r. ⌜ r ≡ cond same (S.union still (S.single i)) still ⌝ }
+{
+    if same {
+        sets::union32(still, Graph::single(i + 1))
+    } else {
+        still
+    }
+}
+
+// One pass: what a chain of two waits gives is added, all of it by the rows at its start. From the last goal down: where the waits go up, the rows behind tell
+// what may be passed over. Answers the goals whose rows stay as they were.
+fn pass(rows: &mut [u32; Graph::MAX], n: usize) -> u32
+    requires { ⌜ (n ≤ 32) × G.Within 32 n (now rows) ⌝ }
+    ensures { λ r. ⌜
+        (now (rows .exit) ≡ G.rowsOf 32 n (P.pass n (G.ahead (now (rows .entry)))))
+        × (r ≡ P.sameRows n (now (rows .entry)) (now (rows .exit)))
+        ⌝ }
+{
+    let old = *rows;
+    let mut still = 0u32;
+    let mut i = n;
+    while i > 0 {
+        i -= 1;
+        let row = old[i];
+        let more = row_pass(&old, row, still);
+        rows[i] = more;
+        still = kept(still, i, more == row);
+    }
+    still
 }
 
 // The two rows that an exchange makes of two rows `width` apart: each keeps its bits on its own half, and the one's bits on the other's half change places.
@@ -60,7 +154,7 @@ fn far_row(near: u32, far: u32, width: usize, half: u32) -> u32
 
 // Exchanges the rows of a block with those `width` further on.
 fn exchange_block(rows: &mut [u32; Graph::MAX], start: usize, width: usize, half: u32)
-    requires { ⌜ X.Width width × (half ≡ X.half width) × (start % (2 * width) ≡ 0) × (start + 2 * width ≤ 32) × X.Words (now rows) ⌝ }
+    requires { ⌜ X.Width width × (half ≡ X.half width) × (start % (2 * width) ≡ 0) × (start + 2 * width ≤ 32) × G.Words 32 (now rows) ⌝ }
     ensures { λ _. ⌜ X.Block width start (now (rows .entry)) (now (rows .exit)) ⌝ }
 {
     let end = start + width;
@@ -76,8 +170,8 @@ fn exchange_block(rows: &mut [u32; Graph::MAX], start: usize, width: usize, half
 
 // A round of exchanges; where no goal is past the width there is nothing to exchange.
 fn exchange(rows: &mut [u32; Graph::MAX], n: usize, width: usize, half: u32)
-    requires { ⌜ X.Width width × (half ≡ X.half width) × (n ≤ 32) × X.Words (now rows) ⌝ }
-    ensures { λ _. ⌜ X.Round width n (now (rows .entry)) (now (rows .exit)) × X.Words (now (rows .exit)) ⌝ }
+    requires { ⌜ X.Width width × (half ≡ X.half width) × (n ≤ 32) × G.Words 32 (now rows) ⌝ }
+    ensures { λ _. ⌜ now (rows .exit) ≡ X.round width n (now (rows .entry)) ⌝ }
 {
     if width < n {
         let mut start = 0;
@@ -90,8 +184,8 @@ fn exchange(rows: &mut [u32; Graph::MAX], n: usize, width: usize, half: u32)
 
 // The rows with every edge turned round: row j has the goals that are before goal j + 1.
 pub fn transposed(rows: &[u32; Graph::MAX], n: usize) -> [u32; Graph::MAX]
-    requires { ⌜ (n ≤ 32) × G.Within n (now rows) ⌝ }
-    ensures { λ r. ⌜ r ≡ G.transposed n (now (rows .entry)) ⌝ }
+    requires { ⌜ (n ≤ 32) × G.Within 32 n (now rows) ⌝ }
+    ensures { λ r. ⌜ r ≡ G.transposed 32 n (now (rows .entry)) ⌝ }
 {
     let mut turned = *rows;
     exchange(&mut turned, n, 16, 0x0000_ffff);

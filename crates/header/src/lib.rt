@@ -1,4 +1,5 @@
 // Checks the header of a record: by plain tests whether anything is refused, and step by step for the refusal. Each test is a function that both call.
+use graph::Graph;
 use reading::Reading;
 ghost use mathlib.Core.Path.{_≡_};
 ghost use Prim.Native.Nat.{_+_, _<_, _≤_, _^_};
@@ -30,8 +31,8 @@ fn version_fine(b: &[u8]) -> bool
 fn goals_fine(b: &[u8]) -> bool
     ensures { λ r. ⌜ r ≡ R.between 1 32 (F.goalCount (now (b .entry))) ⌝ }
 {
-    let n = fields::byte(b, 5);
-    (1 <= n) & (n <= 32)
+    let n = fields::size_of(fields::byte(b, 5));
+    (1 <= n) & (n <= Graph::MAX)
 }
 
 fn variables_fine(b: &[u8]) -> bool

@@ -11,7 +11,7 @@ use Rattle.sets.proofs.Laws.{has-union, has-without, subset-has, has-subset, me
 use Rattle.sets.proofs.Builder.{union-lt, without-lt, setOf-ext, has-setOf-in}
 use Rattle.judge.specs.Independence.{only, knownIndependent, independent}
 use Rattle.judge.specs.ByRows.{listedIn, apart, waitsBy}
-use Rattle.judge.proofs.CommonRow.{listedAll, has-common, common-lt}
+use Rattle.sets.proofs.Common.{inAll, has-common, common-lt}
 
 -- of five, the first is left where the others are false
 or-first : (p q r s t : Bool) → p || (q || r) || (s || t) ≡ true → not (q || s) ≡ true → r ≡ false → t ≡ false → p ≡ true
@@ -42,9 +42,9 @@ subset-every w b c h =
     has-subset b c
     (λ y q. implies-out (has b y) (has c y) (every-out w (λ y. implies (has b y) (has c y)) e y (member-below w b y h q)) q))
 
-module _ (ground free : ℕ) (rows : List ℕ) (w a : ℕ) where
+module _ (ground free : ℕ) (listed : List ℕ) (w a : ℕ) where
   known : ℕ → ℕ → Bool
-  known x y = knownIndependent ground free (listedIn rows) x y
+  known x y = knownIndependent ground free (listedIn listed) x y
 
   -- y is known independent of each variable of a
   knownAll : ℕ → Bool
@@ -68,54 +68,54 @@ module _ (ground free : ℕ) (rows : List ℕ) (w a : ℕ) where
   has-bound x = has-without a (union ground free) x ∙ ap (λ (t : Bool). has a x && not t) (has-union ground free x)
 
   -- of a variable that is not ground
-  listed-known : (y : ℕ) → has ground y ≡ false → has free y || listedAll rows w bound y ≡ knownAll y
+  listed-known : (y : ℕ) → has ground y ≡ false → has free y || inAll listed w bound y ≡ knownAll y
   unfolding known knownAll knownIndependent
   listed-known y g = iff _ _ there back
     where
-      there : has free y || listedAll rows w bound y ≡ true → knownAll y ≡ true
+      there : has free y || inAll listed w bound y ≡ true → knownAll y ≡ true
       there h =
           every-in w (λ x. implies (has a x) (known x y))
           (λ x l.
           implies-in (has a x) (known x y)
           (λ q.
-          or-elim (has free y) (listedAll rows w bound y) h
-          (λ e. or-r (listedIn rows x y || (has ground x || has ground y)) (has free x || has free y) (or-r (has free x) (has free y) e))
+          or-elim (has free y) (inAll listed w bound y) h
+          (λ e. or-r (listedIn listed x y || (has ground x || has ground y)) (has free x || has free y) (or-r (has free x) (has free y) e))
           (λ e.
-          or-five (listedIn rows x y) (has ground x) (has ground y) (has free x) (has free y)
+          or-five (listedIn listed x y) (has ground x) (has ground y) (has free x) (has free y)
           (λ n.
-          implies-out (has bound x) (listedIn rows x y) (every-out w (λ x. implies (has bound x) (listedIn rows x y)) e x l)
+          implies-out (has bound x) (listedIn listed x y) (every-out w (λ x. implies (has bound x) (listedIn listed x y)) e x l)
           (has-bound x ∙ and-i (has a x) (not (has ground x || has free x)) q n)))))
 
-      back : knownAll y ≡ true → has free y || listedAll rows w bound y ≡ true
+      back : knownAll y ≡ true → has free y || inAll listed w bound y ≡ true
       back h = go (has free y) refl
         where
-          go : (t : Bool) → has free y ≡ t → has free y || listedAll rows w bound y ≡ true
-          go true e = or-l (has free y) (listedAll rows w bound y) e
+          go : (t : Bool) → has free y ≡ t → has free y || inAll listed w bound y ≡ true
+          go true e = or-l (has free y) (inAll listed w bound y) e
           go false e =
-              or-r (has free y) (listedAll rows w bound y)
-              (every-in w (λ x. implies (has bound x) (listedIn rows x y))
+              or-r (has free y) (inAll listed w bound y)
+              (every-in w (λ x. implies (has bound x) (listedIn listed x y))
               (λ x l.
-              implies-in (has bound x) (listedIn rows x y)
+              implies-in (has bound x) (listedIn listed x y)
               (λ q.
               let s : has a x && not (has ground x || has free x) ≡ true = sym (has-bound x) ∙ q in
-              or-first (listedIn rows x y) (has ground x) (has ground y) (has free x) (has free y)
+              or-first (listedIn listed x y) (has ground x) (has ground y) (has free x) (has free y)
               (implies-out (has a x) (known x y) (every-out w (λ x. implies (has a x) (known x y)) h x l)
               (and-l (has a x) (not (has ground x || has free x)) s))
               (and-r (has a x) (not (has ground x || has free x)) s) g e)))
 
   -- the clear variables by masks
-  clear-masks : ground < 2 ^ w → free < 2 ^ w → union ground (without (union free (apart ground free rows w a)) a) ≡ clear
+  clear-masks : ground < 2 ^ w → free < 2 ^ w → union ground (without (union free (apart ground free listed w a)) a) ≡ clear
   unfolding clear bound apart
   clear-masks hg hf =
-      let all = common rows w bound in
+      let all = common listed w bound in
       setOf-ext w (union ground (without (union free all) a)) (λ y. has ground y || (not (has a y) && knownAll y))
-      (union-lt w ground (without (union free all) a) hg (without-lt w (union free all) a (union-lt w free all hf (common-lt rows w bound))))
+      (union-lt w ground (without (union free all) a) hg (without-lt w (union free all) a (union-lt w free all hf (common-lt listed w bound))))
       (λ y l.
       has-union ground (without (union free all) a) y
       ∙ ap (λ (t : Bool). has ground y || t)
       (has-without (union free all) a y
-      ∙ ap (λ (t : Bool). t && not (has a y)) (has-union free all y ∙ ap (λ (t : Bool). has free y || t) (has-common rows w bound y l)))
-      ∙ turn (has ground y) (has free y || listedAll rows w bound y) (has a y) (knownAll y) (listed-known y))
+      ∙ ap (λ (t : Bool). t && not (has a y)) (has-union free all y ∙ ap (λ (t : Bool). has free y || t) (has-common listed w bound y l)))
+      ∙ turn (has ground y) (has free y || inAll listed w bound y) (has a y) (knownAll y) (listed-known y))
     where
       turn : (g p q r : Bool) → (g ≡ false → p ≡ r) → g || (p && not q) ≡ g || (not q && r)
       turn true p q r h = refl
@@ -128,21 +128,21 @@ module _ (ground free : ℕ) (rows : List ℕ) (w a : ℕ) where
     allClear = every w (λ y. implies (has b y) (has clear y))
 
     -- the later goal has clear variables alone exactly if the goals are independent
-    independent-clear : allClear ≡ independent ground free (listedIn rows) w a b
+    independent-clear : allClear ≡ independent ground free (listedIn listed) w a b
     unfolding allClear independent known knownAll knownIndependent
     independent-clear = iff _ _ there back
       where
         ground-left : (x y : ℕ) → has ground x ≡ true → known x y ≡ true
         ground-left x y e =
-            or-l (listedIn rows x y || (has ground x || has ground y)) (has free x || has free y)
-            (or-r (listedIn rows x y) (has ground x || has ground y) (or-l (has ground x) (has ground y) e))
+            or-l (listedIn listed x y || (has ground x || has ground y)) (has free x || has free y)
+            (or-r (listedIn listed x y) (has ground x || has ground y) (or-l (has ground x) (has ground y) e))
 
         ground-right : (x y : ℕ) → has ground y ≡ true → known x y ≡ true
         ground-right x y e =
-            or-l (listedIn rows x y || (has ground x || has ground y)) (has free x || has free y)
-            (or-r (listedIn rows x y) (has ground x || has ground y) (or-r (has ground x) (has ground y) e))
+            or-l (listedIn listed x y || (has ground x || has ground y)) (has free x || has free y)
+            (or-r (listedIn listed x y) (has ground x || has ground y) (or-r (has ground x) (has ground y) e))
 
-        there : allClear ≡ true → independent ground free (listedIn rows) w a b ≡ true
+        there : allClear ≡ true → independent ground free (listedIn listed) w a b ≡ true
         there h =
             and-i _ _
             (every-in w _
@@ -170,7 +170,7 @@ module _ (ground free : ℕ) (rows : List ℕ) (w a : ℕ) where
                 sym (has-clear y l)
                 ∙ implies-out (has b y) (has clear y) (every-out w (λ y. implies (has b y) (has clear y)) h y l) e
 
-        back : independent ground free (listedIn rows) w a b ≡ true → allClear ≡ true
+        back : independent ground free (listedIn listed) w a b ≡ true → allClear ≡ true
         back h =
             every-in w (λ y. implies (has b y) (has clear y))
             (λ y l.
@@ -207,6 +207,6 @@ module _ (ground free : ℕ) (rows : List ℕ) (w a : ℕ) where
 
     -- so it waits exactly if it has another
     pub waits-masks : ground < 2 ^ w → free < 2 ^ w → b < 2 ^ w
-        → not (subset b (union ground (without (union free (apart ground free rows w a)) a))) ≡ waitsBy ground free rows w a b
+        → not (subset b (union ground (without (union free (apart ground free listed w a)) a))) ≡ waitsBy ground free listed w a b
     unfolding waitsBy allClear
     waits-masks hg hf hb = ap not (ap (subset b) (clear-masks hg hf) ∙ subset-every w b clear hb ∙ independent-clear)

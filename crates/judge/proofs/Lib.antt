@@ -1,4 +1,4 @@
-pub mod CommonRow
 pub mod ClearSet
 pub mod Listed
-pub mod Grounded
+pub mod Tied
+pub mod ByHalves

@@ -8,13 +8,13 @@ use Rattle.judge.specs.Independence.{independent}
 
 -- the pair of x and y is listed
 abbrev pub listedIn : List ℕ → ℕ → ℕ → Bool
-listedIn rows x y = has (getD rows x 0) y
+listedIn listed x y = has (getD listed x 0) y
 
-module _ (ground free : ℕ) (rows : List ℕ) (w : ℕ) where
+module _ (ground free : ℕ) (listed : List ℕ) (w : ℕ) where
   -- the variables listed with each variable of a that is neither ground nor independent of every other
   unfoldable pub apart : ℕ → ℕ
-  apart a = common rows w (without a (union ground free))
+  apart a = common listed w (without a (union ground free))
 
   -- 01: "Otherwise the later goal waits for the earlier one": the goals' variable sets are a and b
   unfoldable pub waitsBy : ℕ → ℕ → Bool
-  waitsBy a b = not (independent ground free (listedIn rows) w a b)
+  waitsBy a b = not (independent ground free (listedIn listed) w a b)

@@ -1,2 +1,4 @@
 pub mod Independence
 pub mod ByRows
+pub mod Ties
+pub mod Halves

@@ -17,13 +17,13 @@ use Rattle.reading.specs.declared.Reading.{Reading}
 use Rattle.reading.specs.declared.Reading.the-variants.{Fine, Refused as Unread}
 use Rattle.reading.specs.Reading.{reading}
 use Rattle.record.proofs.WellFormed.{fine-well-formed}
+use Rattle.record.proofs.Refusals.{refusal-number}
 use Rattle.order.specs.Order as Order
 use Rattle.order.specs.Order.{before}
 use Rattle.annotator.specs.declared.ReadAnswer.{ReadAnswer}
 use Rattle.annotator.specs.declared.ReadAnswer.the-variants.{Accepted, Refused}
 use Rattle.annotator.specs.Answers.{afterReading, ReadValues, noRecord, readValues, read, orderGraph}
 use Rattle.lfj.specs.Words.{refusalWord, noGoals, goalsAfter, after, afterWord}
-use Rattle.lfj.proofs.Refusals.{refusal-number}
 
 module _ (b : List ℕ) where
   -- what reading says, by the case of the record
@@ -76,9 +76,9 @@ module _ (b : List ℕ) where
       let high = leb-true g (goalCount b) (and-r (leb 1 g) (leb g (goalCount b)) t) in
       let most = fine-well-formed b f .goals-to in
       let order : orderGraph b ≡ Order.order b = rw f in
-      let rows : x .rows ≡ rowsOf (goalCount b) (before b) = ap (λ (y : Graph). y .rows) (e ∙ order) in
+      let rows : x .rows ≡ rowsOf 32 (goalCount b) (before b) = ap (λ (y : Graph). y .rows) (e ∙ order) in
       let i : suc (g - 1) ≡ g = omega (arith, low) in
       let row : w ≡ goalsOf (goalCount b) (before b g) =
-      h ∙ ap (λ (l : List ℕ). getD l (g - 1) 0) rows ∙ row-at (goalCount b) (before b) (g - 1) (omega (arith, low, high, most)) (omega (arith, low, high))
+      h ∙ ap (λ (l : List ℕ). getD l (g - 1) 0) rows ∙ row-at 32 (goalCount b) (before b) (g - 1) (omega (arith, low, high, most)) (omega (arith, low, high))
       ∙ ap (λ (k : ℕ). goalsOf (goalCount b) (before b k)) i in
       rw (f, t) (omega (arith, row))

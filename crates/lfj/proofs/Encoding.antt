@@ -36,7 +36,7 @@ pub check-number : (v : CheckValues) → checkWord v / 2 ^ 56 ≡ v .number
 unfolding checkWord refusalWord
 check-number v = omega arith
 
-pub form-number : (v : F.Values) → (v .place ≡ 0) ⊎ (v .length ≡ 0) → formWord v / 2 ^ 56 ≡ v .number
+pub form-number : (v : F.Values) → (v .place ≡ 0) ⊎ (v .size ≡ 0) → formWord v / 2 ^ 56 ≡ v .number
 unfolding formWord refusalWord
 form-number v (inl h) = omega arith
 form-number v (inr h) = omega arith
@@ -81,11 +81,11 @@ unfolding afterWord refusalWord
 after-goals m = omega arith
 
 module _ (a n : ℕ) where
-  pub text-start : a < 2 ^ 32 → textWord (record { number = 0; place = 0; start = a; length = n }) % 2 ^ 32 ≡ a
+  pub text-start : a < 2 ^ 32 → textWord (record { number = 0; place = 0; start = a; size = n }) % 2 ^ 32 ≡ a
   unfolding textWord refusalWord
   text-start h = omega arith
 
-  pub text-length : n < 2 ^ 16 → textWord (record { number = 0; place = 0; start = a; length = n }) / 2 ^ 32 ≡ n
+  pub text-length : n < 2 ^ 16 → textWord (record { number = 0; place = 0; start = a; size = n }) / 2 ^ 32 ≡ n
   unfolding textWord refusalWord
   text-length h = omega arith
 

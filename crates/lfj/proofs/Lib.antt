@@ -1,4 +1,3 @@
-pub mod Refusals
 pub mod Words
 pub mod After
 pub mod Encoding

@@ -76,7 +76,7 @@ module _ (b : List ℕ) where
       go (Unread r) q = after-number _ (omega arith)
 
   -- a goal's text starts below 2 ^ 32 and has at most 40 bytes
-  pub text-answer : (g : ℕ) → (goalText b g .start < 2 ^ 32) × (goalText b g .length < 2 ^ 16)
+  pub text-answer : (g : ℕ) → (goalText b g .start < 2 ^ 32) × (goalText b g .size < 2 ^ 16)
   unfolding goalText textPlace
   text-answer g = go (reading b) refl
     where
@@ -84,7 +84,7 @@ module _ (b : List ℕ) where
       placed w l h = omega (arith, place-limit b w (g - 1) (omega arith), w .goals-to)
 
       by-range : WellFormed b → (t : Bool) → leb 1 g && leb g (goalCount b) ≡ t →
-          let v = cond t (textOf b g) (noText 14 0) in (v .start < 2 ^ 32) × (v .length < 2 ^ 16)
+          let v = cond t (textOf b g) (noText 14 0) in (v .start < 2 ^ 32) × (v .size < 2 ^ 16)
       by-range w true e =
           let l = between-low 1 (goalCount b) g e in
           let h = between-high 1 (goalCount b) g e in
@@ -92,7 +92,7 @@ module _ (b : List ℕ) where
       by-range w false e = (omega arith, omega arith)
 
       go : (s : Reading) → reading b ≡ s →
-          let v = afterReading noText s (cond (leb 1 g && leb g (goalCount b)) (textOf b g) (noText 14 0)) in (v .start < 2 ^ 32) × (v .length < 2 ^ 16)
+          let v = afterReading noText s (cond (leb 1 g && leb g (goalCount b)) (textOf b g) (noText 14 0)) in (v .start < 2 ^ 32) × (v .size < 2 ^ 16)
       go Fine q = by-range (fine-well-formed b q) (leb 1 g && leb g (goalCount b)) refl
       go (Unread r) q = (omega arith, omega arith)
 

@@ -54,7 +54,7 @@ unfolding readWord refusalWord
 read-accepted n e f = omega arith ∙ ap readWord (ap readValues (sym f) ∙ e)
 
 pub text-accepted : {s : TextAnswer} {v : TextValues} {w : ℕ} (a : Span) → textValues s ≡ v → s ≡ At a → w ≡ a .place % 2 ^ 32
-    → w + a .length % 2 ^ 16 * 2 ^ 32 ≡ textWord v
+    → w + a .size % 2 ^ 16 * 2 ^ 32 ≡ textWord v
 unfolding textWord refusalWord
 text-accepted a e f h = omega (arith, h) ∙ ap textWord (ap textValues (sym f) ∙ e)
 

@@ -15,8 +15,7 @@ use Rattle.form.specs.Form as F
 use Rattle.mel.specs.Annotation as M
 use Rattle.annotator.specs.Answers.{afterReading, ReadValues, TextValues, CheckValues}
 
--- The number at bits 56 to 63, the place at bits 0 to 31: a place that has more bits is cut to these. No place of a record shorter than 2 ^ 32 bytes
--- has, and no length (proofs/Fits.antt).
+-- The number at bits 56 to 63, the place at bits 0 to 31: no place has more bits, whatever the record's length, and no length (specs/Fits.antt).
 unfoldable pub refusalWord : ℕ → ℕ → ℕ
 refusalWord number place = number * 2 ^ 56 + place % 2 ^ 32
 
@@ -46,7 +45,7 @@ afterWord v = refusalWord (v .number) (v .place) + v .goals
 -- `lfj_form`: the length; with 13 the goals a, b, c, d at bits 32, 38, 44 and 50, six bits each
 unfoldable pub formWord : F.Values → ℕ
 formWord v =
-    refusalWord (v .number) (v .place) + v .length % 2 ^ 32 + v .a % 2 ^ 6 * 2 ^ 32 + v .b % 2 ^ 6 * 2 ^ 38 + v .c % 2 ^ 6 * 2 ^ 44
+    refusalWord (v .number) (v .place) + v .size % 2 ^ 32 + v .a % 2 ^ 6 * 2 ^ 32 + v .b % 2 ^ 6 * 2 ^ 38 + v .c % 2 ^ 6 * 2 ^ 44
     + v .d % 2 ^ 6 * 2 ^ 50
 
 -- `lfj_form_length`: the estimate, with its free part: w is the word of values that 01 allows: a refusal's, 13's with its goals, or those
@@ -58,11 +57,11 @@ pub record EstimateWord (p : F.Plan) (w : ℕ) : Type 0 where
 
 -- `lfj_mel`: the length
 unfoldable pub melWord : M.Values → ℕ
-melWord v = refusalWord (v .number) (v .place) + v .length % 2 ^ 32
+melWord v = refusalWord (v .number) (v .place) + v .size % 2 ^ 32
 
 -- `lfj_goal_text`: the place, and the length at bits 32 to 47
 unfoldable pub textWord : TextValues → ℕ
-textWord v = refusalWord (v .number) (v .place) + v .start % 2 ^ 32 + v .length % 2 ^ 16 * 2 ^ 32
+textWord v = refusalWord (v .number) (v .place) + v .start % 2 ^ 32 + v .size % 2 ^ 16 * 2 ^ 32
 
 -- `lfj_check`: 0 for same, else i at bits 0 to 7 and j at bits 8 to 15; the bits 16 to 55 are 0
 unfoldable pub checkWord : CheckValues → ℕ

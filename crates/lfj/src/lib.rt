@@ -124,8 +124,8 @@ pub extern "C" fn lfj_goal_text(bytes: &[u8], goal: u32) -> u64
     match annotator::find_text(bytes, goal) {
         TextAnswer::NoText(r) => refused(r),
         TextAnswer::At(s) => {
-            let length = s.length as u64 % 0x1_0000;
-            low(s.place) + length * 0x1_0000_0000
+            let size = s.size as u64 % 0x1_0000;
+            low(s.place) + size * 0x1_0000_0000
         }
     }
 }

@@ -35,8 +35,12 @@ members-width (suc w) i m = go (has m i) (members-width w (suc i) m)
     go true l = suc-le-suc l
     go false l = le-step l
 
+count-most : (w m : ℕ) → m < 2 ^ w → count m ≤ w
+count-most w m h = omega (arith, count-members w m h, members-width w 0 m)
+
+-- in a word of 64
 pub count-width : (m : ℕ) → m < 2 ^ 64 → count m ≤ 64
-count-width m h = omega (arith, count-members 64 m h, members-width 64 0 m)
+count-width m h = count-most 64 m h
 
 left-of : (a b i : ℕ) → has (without a b) i ≡ true → has a i ≡ true
 left-of a b i e = and-l (has a i) _ (sym (has-without a b i) ∙ e)
@@ -53,13 +57,13 @@ square v h = mul-le-mul-right v h
 pub product : (n c : ℕ) → n ≤ 32 → n * c ≤ 32 * c
 product n c h = mul-le-mul-right c h
 
-module _ (head : ℕ) (sets grounds rows : List ℕ) (n : ℕ) where
+module _ (w head : ℕ) (sets grounds rows : List ℕ) (n : ℕ) where
   -- the variables of the goals, and how many they are
   abbrev vars : ℕ
   vars = once sets 0 n
 
   abbrev v : ℕ
-  v = length (members 64 vars)
+  v = length (members w vars)
 
   once-in : (p q x : ℕ) → q ≤ n → has (once sets p q) x ≡ true → has vars x ≡ true
   once-in p q x h e =
@@ -81,65 +85,70 @@ module _ (head : ℕ) (sets grounds rows : List ℕ) (n : ℕ) where
       let both = left-of (meet (once sets p q) met) (twice sets p q) x (left-of (without (meet (once sets p q) met) (twice sets p q)) (goal grounds (p + 1)) x e) in
       once-in p q x h (and-l (has (once sets p q) x) (has met x) (sym (has-meet (once sets p q) met x) ∙ both))
 
-  pairs-count : (p q k : ℕ) → ((y : ℕ) → has k y ≡ true → has vars y ≡ true) → (l : List ℕ) → length (pairsOf sets rows p q k l) ≤ length l * v
+  pairs-count : (p q k : ℕ) → ((y : ℕ) → has k y ≡ true → has vars y ≡ true) → (l : List ℕ) → length (pairsOf w sets rows p q k l) ≤ length l * v
   unfolding pairsOf
   pairs-count p q k h [] = zero-le
   pairs-count p q k h (x ∷ l) =
-      let set = partners sets p q k (goal rows (x + 1)) x in
+      let others = partners sets p q k (goal rows (x + 1)) x in
       omega (
         arith,
-        length-append (map (Indep x) (members 64 set)) (pairsOf sets rows p q k l),
-        length-map (members 64 set) (Indep x),
-        no-more 64 0 set vars (λ y e. h y (partners-in sets p q k (goal rows (x + 1)) x y e)),
+        length-append (map (Indep x) (members w others)) (pairsOf w sets rows p q k l),
+        length-map (members w others) (Indep x),
+        no-more w 0 others vars (λ y e. h y (partners-in sets p q k (goal rows (x + 1)) x y e)),
         pairs-count p q k h l,
         suc-mul (length l) v,
       )
 
-  checks-count : (p q : ℕ) → q ≤ n → length (checks (given head sets grounds rows) p q) ≤ v + v * v
+  checks-count : (p q : ℕ) → q ≤ n → length (checks (given w head sets grounds rows) p q) ≤ v + v * v
   checks-count p q h =
-      let g = members 64 (groundSet sets grounds p q) in
+      let g = members w (groundSet sets grounds p q) in
       let k = pairSet head sets grounds p q in
       omega (
         arith,
-        ap length (checks-masks head sets grounds rows p q),
-        length-append (map Ground g) (pairsOf sets rows p q k (members 64 k)),
+        ap length (checks-masks w head sets grounds rows p q),
+        length-append (map Ground g) (pairsOf w sets rows p q k (members w k)),
         length-map g Ground,
-        no-more 64 0 (groundSet sets grounds p q) vars (λ x e. gset-in p q x h e),
-        pairs-count p q k (λ y e. kset-in p q y h e) (members 64 k),
-        mul-le-mul-right v (no-more 64 0 k vars (λ x e. kset-in p q x h e)),
+        no-more w 0 (groundSet sets grounds p q) vars (λ x e. gset-in p q x h e),
+        pairs-count p q k (λ y e. kset-in p q y h e) (members w k),
+        mul-le-mul-right v (no-more w 0 k vars (λ x e. kset-in p q x h e)),
       )
 
-  checks-most : (p q : ℕ) → q ≤ n → length (checksText head sets grounds rows false p q) ≤ 15 * (v + v * v)
+  checks-most : (p q : ℕ) → q ≤ n → length (checksText w head sets grounds rows false p q) ≤ 15 * (v + v * v)
   unfolding checksText
-  checks-most p q h = omega (arith, checks-length false (checks (given head sets grounds rows) p q), checks-count p q h)
+  checks-most p q h = omega (arith, checks-length false (checks (given w head sets grounds rows) p q), checks-count p q h)
 
-  stage-most : (p q : ℕ) → q ≤ n → length (stageText head sets grounds rows p q) ≤ 15 * (v + v * v) + 3 * (q - p) + 4
+  stage-most : (p q : ℕ) → q ≤ n → length (stageText w head sets grounds rows p q) ≤ 15 * (v + v * v) + 3 * (q - p) + 4
   stage-most p q h =
       ⊎-elim
-      (λ e. omega (arith, ap length (stage-one head sets grounds rows p q e), decimal-length q))
-      (λ d. omega (arith, simp length-append at (ap length (stage-parts head sets grounds rows p q d)), checks-most p q h, goals-bound p q, arrow-length (nonEmpty (checksText head sets grounds rows false p q))))
+      (λ e. omega (arith, ap length (stage-one w head sets grounds rows p q e), decimal-length q))
+      (λ d. omega (arith, simp length-append at (ap length (stage-parts w head sets grounds rows p q d)), checks-most p q h, goals-bound p q, arrow-length (nonEmpty (checksText w head sets grounds rows false p q))))
       (same-or q (p + 1))
 
-  stages-most : (q : ℕ) → q ≤ n → length (stagesText head sets grounds rows q) ≤ q * (15 * (v + v * v)) + 8 * q
+  stages-most : (q : ℕ) → q ≤ n → length (stagesText w head sets grounds rows q) ≤ q * (15 * (v + v * v)) + 8 * q
   stages-most =
-      by-stages 64 head sets (λ q. q ≤ n → length (stagesText head sets grounds rows q) ≤ q * (15 * (v + v * v)) + 8 * q) (λ h. omega (arith, none-text head sets grounds rows)) (λ q l ih h.
-      let p = start 64 head sets q in
+      by-stages w head sets (λ q. q ≤ n → length (stagesText w head sets grounds rows q) ≤ q * (15 * (v + v * v)) + 8 * q) (λ h. omega (arith, none-text w head sets grounds rows)) (λ q l ih h.
+      let p = start w head sets q in
       let c = 15 * (v + v * v) in
-      let f : suc p ≤ q = start-falls 64 head sets q l in
+      let f : suc p ≤ q = start-falls w head sets q l in
       ⊎-elim
-      (λ e. omega (arith, f, ap length (stages-one head sets grounds rows q l e), stage-most p q h, suc-mul p c, mul-le-mul-right c f))
-      (λ d. omega (arith, f, ih (omega (arith, f, h)), simp length-append at (ap length (stages-more head sets grounds rows q l d)), stage-most p q h, suc-mul p c, mul-le-mul-right c f))
+      (λ e. omega (arith, f, ap length (stages-one w head sets grounds rows q l e), stage-most p q h, suc-mul p c, mul-le-mul-right c f))
+      (λ d. omega (arith, f, ih (omega (arith, f, h)), simp length-append at (ap length (stages-more w head sets grounds rows q l d)), stage-most p q h, suc-mul p c, mul-le-mul-right c f))
       (same-or p 0))
 
   -- a place in the text fits a machine's number
-  pub text-fits : n ≤ 32 → length (stagesText head sets grounds rows n) < 2 ^ 63
-  text-fits h =
-      let l = members-width 64 0 vars in
-      omega (arith, stages-most n (omega arith), square v l, product n (15 * (v + v * v)) h)
+  pub text-fits : w ≤ 64 → n ≤ 32 → length (stagesText w head sets grounds rows n) < 2 ^ 63
+  text-fits e h =
+      let l : v ≤ 64 = omega (arith, e, members-width w 0 vars) in
+      omega (arith, l, stages-most n (omega arith), square v l, product n (15 * (v + v * v)) h)
 
 -- the whole text, with the variables counted by the code
+whole-most : (w head : ℕ) (sets grounds rows : List ℕ) (m : ℕ) → m < 2 ^ w → m ≡ once sets 0 (length sets)
+    → length (melText w head sets grounds rows) ≤ length sets * (15 * (count m + count m * count m)) + 8 * length sets
+whole-most w head sets grounds rows m h e =
+    let c : count m ≡ length (members w (once sets 0 (length sets))) = count-members w m h ∙ ap (λ (k : ℕ). length (members w k)) e in
+    rw c (omega (arith, ap length (mel-text w head sets grounds rows), stages-most w head sets grounds rows (length sets) (length sets) (omega arith)))
+
+-- with 64 variables
 pub text-most : (head : ℕ) (sets grounds rows : List ℕ) (m : ℕ) → m < 2 ^ 64 → m ≡ once sets 0 (length sets)
-    → length (melText head sets grounds rows) ≤ length sets * (15 * (count m + count m * count m)) + 8 * length sets
-text-most head sets grounds rows m h e =
-    let c : count m ≡ length (members 64 (once sets 0 (length sets))) = count-members 64 m h ∙ ap (λ (k : ℕ). length (members 64 k)) e in
-    rw c (omega (arith, ap length (mel-text head sets grounds rows), stages-most head sets grounds rows (length sets) (length sets) (omega arith)))
+    → length (melText 64 head sets grounds rows) ≤ length sets * (15 * (count m + count m * count m)) + 8 * length sets
+text-most head sets grounds rows m h e = whole-most 64 head sets grounds rows m h e

@@ -42,12 +42,12 @@ unfolding arrowIf
 arrow-length true = omega arith
 arrow-length false = omega arith
 
-module _ (head : ℕ) (sets grounds rows : List ℕ) where
-  pub none-text : length (stagesText head sets grounds rows 0) ≤ 0
+module _ (w head : ℕ) (sets grounds rows : List ℕ) where
+  pub none-text : length (stagesText w head sets grounds rows 0) ≤ 0
   unfolding stagesText W.stagesText given
-  none-text = rw (stages-none 64 head sets, join-none false 44) zero-le
+  none-text = rw (stages-none w head sets, join-none false 44) zero-le
 
   -- the whole text is the text of all its stages
-  pub mel-text : stagesText head sets grounds rows (length sets) ≡ melText head sets grounds rows
+  pub mel-text : stagesText w head sets grounds rows (length sets) ≡ melText w head sets grounds rows
   unfolding melText W.melText stagesText given
   mel-text = refl

@@ -3,3 +3,4 @@ pub mod Bound
 pub mod Theorems
 pub mod Answers
 pub mod Record
+pub mod Some

@@ -33,20 +33,20 @@ front f (suc w) (suc n) i h =
     ap₂ (λ (x : ℕ) (r : List ℕ). x ∷ r) (ap (λ (t : Bool). cond t (f (suc i)) 0) l)
     (ap (λ (k : ℕ). take n (tableFrom w (suc i) k (λ k. f (suc k)))) e ∙ front f w n (suc i) (le-of-suc-le-suc h))
 
-goals-length : (n i : ℕ) → length (goalsFrom n i) ≡ n
+pub goals-count : (n i : ℕ) → length (goalsFrom n i) ≡ n
 unfolding goalsFrom
-goals-length zero i = refl
-goals-length (suc n) i = ap suc (goals-length n (suc i))
+goals-count zero i = refl
+goals-count (suc n) i = ap suc (goals-count n (suc i))
 
 module _ (b : List ℕ) where
   abbrev inOrder : List ℕ
   inOrder = map (goalSet b) (goalsFrom (goalCount b) 0)
 
   sets-length : length inOrder ≡ goalCount b
-  sets-length = length-map (goalsFrom (goalCount b) 0) (goalSet b) ∙ goals-length (goalCount b) 0
+  sets-length = length-map (goalsFrom (goalCount b) 0) (goalSet b) ∙ goals-count (goalCount b) 0
 
   -- the sets of the goals, as the code takes them
-  front-sets : goalCount b ≤ 32 → take (goalCount b) (goalSets b) ≡ inOrder
+  front-sets : goalCount b ≤ 32 → take (goalCount b) (goalSets 32 b) ≡ inOrder
   unfolding goalSets
   front-sets h =
       let e : goalCount b ≡ 0 + goalCount b = omega arith in
@@ -57,11 +57,11 @@ module _ (b : List ℕ) where
     unfolding goal
     ground-at n z u = getD-replicate 32 (n - 1) (groundSet b) 0 (omega (arith, h, z, u))
 
-    row-at : (x y : ℕ) → x < 64 → y < 64 → has (goal (pairRows b) (x + 1)) y ≡ listed b x y
+    row-at : (x y : ℕ) → x < 64 → y < 64 → has (goal (pairRows 64 b) (x + 1)) y ≡ listed b x y
     unfolding goal pairRows
     row-at x y lx ly =
         let i : x + 1 - 1 ≡ x = omega arith in
-        ap (λ (j : ℕ). has (getD (pairRows b) j 0) y) i
+        ap (λ (j : ℕ). has (getD (pairRows 64 b) j 0) y) i
         ∙ ap (λ (m : ℕ). has m y) (table-at 64 64 (λ x. setOf 64 (listed b x)) x lx lx)
         ∙ has-setOf-in 64 (listed b x) y ly
 
@@ -76,31 +76,31 @@ module _ (b : List ℕ) where
         or-assoc true q r = refl
         or-assoc false q r = refl
 
-    one-text : melText (headSet b) inOrder (replicate 32 (groundSet b)) (pairRows b) ≡ mel b
+    one-text : melText 64 (headSet b) inOrder (replicate 32 (groundSet b)) (pairRows 64 b) ≡ mel b
     unfolding melText given mel clauseOf
     one-text =
         mel-same 64 (headSet b) inOrder
         (λ g. goal (replicate 32 (groundSet b)) g) (λ g. groundSet b)
-        (λ g x y. has (goal (pairRows b) (x + 1)) y || has (goal (replicate 32 (groundSet b)) g) x || has (goal (replicate 32 (groundSet b)) g) y)
+        (λ g x y. has (goal (pairRows 64 b) (x + 1)) y || has (goal (replicate 32 (groundSet b)) g) x || has (goal (replicate 32 (groundSet b)) g) y)
         (λ g. knownIndependent (groundSet b) 0 (listed b))
         (λ n z u. ground-at n z (omega (arith, u, sets-length)))
         (λ n x y z u lx ly.
-        ap (λ (m : ℕ). has (goal (pairRows b) (x + 1)) y || has m x || has m y) (ground-at n z (omega (arith, u, sets-length)))
-        ∙ known-is (has (goal (pairRows b) (x + 1)) y) (groundSet b) x y (row-at x y lx ly))
+        ap (λ (m : ℕ). has (goal (pairRows 64 b) (x + 1)) y || has m x || has m y) (ground-at n z (omega (arith, u, sets-length)))
+        ∙ known-is (has (goal (pairRows 64 b) (x + 1)) y) (groundSet b) x y (row-at x y lx ly))
 
     -- the text that the code writes, given the record's facts
     pub facts-text : (n head ground : ℕ) (goals rows : List ℕ) → n ≡ goalCount b → head ≡ headSet b → ground ≡ groundSet b → Holding b goals rows
-        → melText head (take n goals) (replicate 32 ground) rows ≡ mel b
+        → melText 64 head (take n goals) (replicate 32 ground) rows ≡ mel b
     facts-text n head ground goals rows en eh eg (es, er) =
-        rw (en, eh, eg, es, er) (ap (λ (l : List ℕ). melText (headSet b) l (replicate 32 (groundSet b)) (pairRows b)) (front-sets h) ∙ one-text)
+        rw (en, eh, eg, es, er) (ap (λ (l : List ℕ). melText 64 (headSet b) l (replicate 32 (groundSet b)) (pairRows 64 b)) (front-sets h) ∙ one-text)
 
-    pub facts-length : (n : ℕ) (goals : List ℕ) → n ≡ goalCount b → goals ≡ goalSets b → length (take n goals) ≡ goalCount b
+    pub facts-length : (n : ℕ) (goals : List ℕ) → n ≡ goalCount b → goals ≡ goalSets 32 b → length (take n goals) ≡ goalCount b
     facts-length n goals en es = rw (en, es) (ap length (front-sets h) ∙ sets-length)
 
-pub facts-room : (b goals : List ℕ) → goals ≡ goalSets b → length goals ≡ 32
+pub facts-room : (b goals : List ℕ) → goals ≡ goalSets 32 b → length goals ≡ 32
 unfolding goalSets
 facts-room b goals es = ap length es ∙ table-length 32 (goalCount b) (λ i. goalSet b (suc i))
 
-pub facts-rows : (b rows : List ℕ) → rows ≡ pairRows b → length rows ≡ 64
+pub facts-rows : (b rows : List ℕ) → rows ≡ pairRows 64 b → length rows ≡ 64
 unfolding pairRows
 facts-rows b rows er = ap length er ∙ table-length 64 64 (λ x. setOf 64 (listed b x))

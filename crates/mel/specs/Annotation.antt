@@ -34,13 +34,13 @@ mel b = melText (clauseOf b)
 pub record Values : Type 0 where
   pub number : ℕ
   pub place : ℕ
-  pub length : ℕ
+  pub size : ℕ
 
 abbrev pub refused : ℕ → ℕ → Values
-refused number place = record { number = number; place = place; length = 0 }
+refused number place = record { number = number; place = place; size = 0 }
 
 abbrev pub done : ℕ → Values
-done length = record { number = 0; place = 0; length = length }
+done size = record { number = 0; place = 0; size = size }
 
 unfoldable pub values : Written → Values
 values (W.Done n) = done n

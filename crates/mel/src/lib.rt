@@ -2,6 +2,7 @@
 ghost use mathlib.Core.Path.{_≡_};
 ghost use Prim.Native.Nat.{ℕ, _+_, _*_, _<_, _≤_};
 ghost use lib.ListN.{length};
+use graph::Graph;
 use reading::Reading;
 use refusal::Refusal;
 ghost use Rattle.text.specs.Lent.{stored};
@@ -30,14 +31,14 @@ fn write_clause(out: &mut [u8], head: u64, sets: &[u64], grounds: &[u64], rows: 
     requires { ⌜ (0 < length (now sets)) × (length (now sets) ≤ 32) ⌝ }
     ensures { λ r.
         ⌜ N.values r
-        ≡ N.answerTo (X.melText head (now (sets .entry)) (now (grounds .entry)) (now (rows .entry))) (now (out .entry)) ⌝ }
+        ≡ N.answerTo (X.melText 64 head (now (sets .entry)) (now (grounds .entry)) (now (rows .entry))) (now (out .entry)) ⌝ }
     ensures { λ r.
         ⌜ now (out .exit)
-        ≡ stored (X.melText head (now (sets .entry)) (now (grounds .entry)) (now (rows .entry))) (now (out .entry)) ⌝ }
+        ≡ stored (X.melText 64 head (now (sets .entry)) (now (grounds .entry)) (now (rows .entry))) (now (out .entry)) ⌝ }
 {
     let n = sets.len();
     let b = stages::up_to(sets);
-    let before = b.set;
+    let before = b.vars;
     let room = out.len();
     let v = sets::count(stages::goal(&before, n + 1));
     if most(n, v) <= room {
@@ -60,7 +61,7 @@ pub fn write(b: &[u8], out: &mut [u8]) -> Written
     ensures { λ r. ⌜ N.values r ≡ N.melAnswer (now (b .entry)) (now (out .entry)) ⌝ }
     ensures { λ r. ⌜ now (out .exit) ≡ N.melBuffer (now (b .entry)) (now (out .entry)) ⌝ }
 {
-    let mut goals = [0u64; 32];
+    let mut goals = [0u64; Graph::MAX];
     let mut pairs = [0u64; 64];
     let s = decoding::read(b, &mut goals, &mut pairs);
     match s {
@@ -69,7 +70,7 @@ pub fn write(b: &[u8], out: &mut [u8]) -> Written
             let n = fields::size_of(fields::byte(b, 5));
             let head = fields::set_at(b, 8);
             let ground = fields::set_at(b, 16);
-            let grounds = [ground; 32];
+            let grounds = [ground; Graph::MAX];
             write_clause(out, head, &goals[..n], &grounds, &pairs)
         }
     }

@@ -12,26 +12,25 @@ use borrow.Author.Tests.{eq-eqb, ne-eqb, eqb-true, eqb-false, leb-false}
 use Rattle.logic.proofs.Bools.{test, by-test}
 use Rattle.sets.specs.Sets.{has, single}
 use Rattle.sets.proofs.Laws.{has-empty, has-single}
-use Rattle.graph.specs.Graph.{behind}
+use Rattle.graph.specs.Graph.{behind, Words}
 use Rattle.expression.specs.Expr.{goal, times, stands}
 use Rattle.grammar.specs.Reader.{Sign, digit, joiner, opener, closer, other, sign, Front, Level, due, begun, done, state, goes, starts, grows}
 use Rattle.grammar.proofs.Signs.{Is, sign-is, sign-digit}
 use Rattle.grammar.proofs.Places.{byte-inside}
-use Rattle.rows.specs.Rows.{Words}
 use Rattle.numbers.specs.declared.Kind.the-variants.{Goal}
 use Rattle.numbers.specs.declared.Part.the-variants.{Bad}
 use Rattle.numbers.specs.Reads.{maskOf, extraOf, found, bit, Told, Comes, Numbered}
 use Rattle.numbers.proofs.Runs.{takes, stuck, alike}
 
 -- ---- what its node tells
-told-goal : (v : ℕ) (rows : List ℕ) → 1 ≤ v → Words rows → Told (goal v) rows Goal (maskOf v) (extraOf v) rows
-told-goal v rows lo w =
+told-goal : (w v : ℕ) (rows : List ℕ) → 1 ≤ v → Words w rows → Told w (goal v) rows Goal (maskOf w v) (extraOf w v) rows
+told-goal w v rows lo ws =
     record {
       kinds = refl;
-      stand = λ i h. by-test (λ m. has m i ≡ stands (goal v) (suc i)) (leb v 32) (λ t. small i) (λ t. large i h (leb-false v 32 t));
-      once = λ z u. once (test (leb v 32)) z u;
+      stand = λ i h. by-test (λ m. has m i ≡ stands (goal v) (suc i)) (leb v w) (λ t. small i) (λ t. large i h (leb-false v w t));
+      once = λ z u. once (test (leb v w)) z u;
       order = λ i j h k. sym (or-false (behind rows (suc i) (suc j)));
-      words = w;
+      words = ws;
     }
   where
     none-one : (b : Bool) → b ≡ leb 1 (cond b 1 0)
@@ -47,15 +46,15 @@ told-goal v rows lo w =
     small : (i : ℕ) → has (single (v - 1)) i ≡ stands (goal v) (suc i)
     small i = has-single (v - 1) i ∙ same i ∙ none-one (eqb (suc i) v)
 
-    once : (leb v 32 ≡ true) ⊎ (leb v 32 ≡ false) → extraOf v ≡ 0 → (u : ℕ) → times (goal v) u ≤ bit (maskOf v) u
+    once : (leb v w ≡ true) ⊎ (leb v w ≡ false) → extraOf w v ≡ 0 → (u : ℕ) → times (goal v) u ≤ bit (maskOf w v) u
     once (inr t) z u = let one-zero : _≡_ {A = ℕ} 1 0 = sym (ap (λ b. cond {A = ℕ} b 0 1) t) ∙ z in absurd (omega arith)
     once (inl t) z zero = let e : cond {A = ℕ} (eqb 0 v) 1 0 ≡ 0 = ap (λ b. cond {A = ℕ} b 1 0) (ne-eqb 0 v (λ q. omega arith)) in omega arith
     once (inl t) z (suc i) =
-        let m : maskOf v ≡ single (v - 1) = ap (λ b. cond {A = ℕ} b (single (v - 1)) 0) t in
-        let e : cond {A = ℕ} (has (maskOf v) i) 1 0 ≡ cond (eqb (suc i) v) 1 0 = ap (λ b. cond {A = ℕ} b 1 0) (ap (λ w. has w i) m ∙ has-single (v - 1) i ∙ same i) in
+        let m : maskOf w v ≡ single (v - 1) = ap (λ b. cond {A = ℕ} b (single (v - 1)) 0) t in
+        let e : cond {A = ℕ} (has (maskOf w v) i) 1 0 ≡ cond (eqb (suc i) v) 1 0 = ap (λ b. cond {A = ℕ} b 1 0) (ap (λ z. has z i) m ∙ has-single (v - 1) i ∙ same i) in
         omega arith
 
-    large : (i : ℕ) → i < 32 → 32 < v → has 0 i ≡ stands (goal v) (suc i)
+    large : (i : ℕ) → i < w → w < v → has 0 i ≡ stands (goal v) (suc i)
     large i h lt = has-empty i ∙ sym (ne-eqb (suc i) v (λ e. omega arith)) ∙ none-one (eqb (suc i) v)
 
 -- ---- the way over its digits
@@ -79,9 +78,9 @@ ends-number d os g f v b opener i r = refl
 ends-number d os g f v b closer i r = refl
 ends-number d os g f v b other i r = refl
 
-module _ (s : List ℕ) (a : ℕ) where
-  pub num-bad : ((getD s a 0 ≡ 40) → ⊥) → (getD s a 0 < 49) ⊎ (57 < getD s a 0) → Numbered s a (Bad a)
-  num-bad n h depth rows w =
+module _ (w : ℕ) (s : List ℕ) (a : ℕ) where
+  pub num-bad : ((getD s a 0 ≡ 40) → ⊥) → (getD s a 0 < 49) ⊎ (57 < getD s a 0) → Numbered w s a (Bad a)
+  num-bad n h depth rows ws =
       λ d os g f p. stuck s a (state d os g f due) (starts-none d os g f (getD s a 0) (sign (getD s a 0)) (sign-is (getD s a 0)) n h) refl
 
   begins : (v : ℕ) → 1 ≤ v → v < 10 → getD s a 0 ≡ 48 + v → (d : ℕ) (os : List Level) (g f : Front) → Comes s a (state d os g f due) (a + 1) (state d os g f (begun v))
@@ -89,30 +88,30 @@ module _ (s : List ℕ) (a : ℕ) where
       takes s a (48 + v) (state d os g f due) (state d os g f (begun v)) (omega arith) b (ap (λ c. starts d os g f c) (sign-digit v hi) ∙ starts-digit d os g f v lo)
 
   -- one digit
-  pub num-one : (v : ℕ) → 1 ≤ v → v < 10 → getD s a 0 ≡ 48 + v → (getD s (a + 1) 0 < 48) ⊎ (57 < getD s (a + 1) 0) → Numbered s a (found v (a + 1))
-  num-one v lo hi b n depth rows w =
+  pub num-one : (v : ℕ) → 1 ≤ v → v < 10 → getD s a 0 ≡ 48 + v → (getD s (a + 1) 0 < 48) ⊎ (57 < getD s (a + 1) 0) → Numbered w s a (found w v (a + 1))
+  num-one v lo hi b n depth rows ws =
       let lt : a < length s = byte-inside s a (48 + v) (omega arith) b in (
         goal v,
         omega arith,
         omega arith,
         tt,
-        told-goal v rows lo w,
+        told-goal w v rows lo ws,
         λ d os g f p. begins v lo hi b d os g f
             ∙ alike s (a + 1) (state d os g f (begun v)) (state d os g f (done (goal v)))
             (ends-number d os g f v (getD s (a + 1) 0) (sign (getD s (a + 1) 0)) (sign-is (getD s (a + 1) 0)) n) refl,
       )
 
   -- two digits
-  pub num-two : (v w : ℕ) → 1 ≤ v → v < 10 → w < 10 → getD s a 0 ≡ 48 + v → getD s (a + 1) 0 ≡ 48 + w → Numbered s a (found (10 * v + w) (a + 2))
-  num-two v w lo hi hw b c depth rows ws =
-      let lt : a + 1 < length s = byte-inside s (a + 1) (48 + w) (omega arith) c in
+  pub num-two : (v u : ℕ) → 1 ≤ v → v < 10 → u < 10 → getD s a 0 ≡ 48 + v → getD s (a + 1) 0 ≡ 48 + u → Numbered w s a (found w (10 * v + u) (a + 2))
+  num-two v u lo hi hu b c depth rows ws =
+      let lt : a + 1 < length s = byte-inside s (a + 1) (48 + u) (omega arith) c in
       let two : a + 1 + 1 ≡ a + 2 = omega arith in (
-        goal (10 * v + w),
+        goal (10 * v + u),
         omega arith,
         omega arith,
         tt,
-        told-goal (10 * v + w) rows (omega arith) ws,
+        told-goal w (10 * v + u) rows (omega arith) ws,
         λ d os g f p. begins v lo hi b d os g f
-            ∙ subst (λ z. Comes s (a + 1) (state d os g f (begun v)) z (state d os g f (done (goal (10 * v + w))))) two
-            (takes s (a + 1) (48 + w) (state d os g f (begun v)) (state d os g f (done (goal (10 * v + w)))) (omega arith) c (ap (λ z. grows d os g f v z) (sign-digit w hw))),
+            ∙ subst (λ z. Comes s (a + 1) (state d os g f (begun v)) z (state d os g f (done (goal (10 * v + u))))) two
+            (takes s (a + 1) (48 + u) (state d os g f (begun v)) (state d os g f (done (goal (10 * v + u)))) (omega arith) c (ap (λ z. grows d os g f v z) (sign-digit u hu))),
       )

@@ -1,3 +1,2 @@
 pub mod Runs
 pub mod Digits
-pub mod Wraps

@@ -1,4 +1,3 @@
 pub mod Waits
-pub mod Closing
 pub mod Record
 pub mod Theorems

@@ -1,7 +1,7 @@
 -- The order of a record is the order of the chains of its waits. For any bytes.
 use mathlib.Core.Path.{_≡_}
 use mathlib.Core.Logic.{_↔_}
-use mathlib.Core.Bool.{true, not, _&&_}
+use mathlib.Core.Bool.{Bool, true, not, _&&_}
 use mathlib.Core.List.{List}
 use Prim.Native.Nat.{ℕ, _≤_, _<_}
 use native.Mathlib.Omega.{arith}
@@ -9,11 +9,11 @@ use lib.Dec.{leb, ltb}
 use borrow.Author.Tests.{leb-true, ltb-true}
 use Rattle.logic.proofs.Bools.{iff, and-l, and-r}
 use Rattle.fields.specs.Facts.{groundAt, freeAt}
-use Rattle.record.specs.Fields.{goalCount, goalSet, listed}
+use Rattle.fields.specs.Fields.{goalCount, goalSet, listed}
 use Rattle.judge.specs.Independence.{independent}
 use Rattle.expression.specs.Expr.{Goals, Order}
-use Rattle.expression.specs.Closure.{Chain, wait, link, closed}
-use Rattle.expression.proofs.Closure.{closed-chain, chain-closed, waiting-order}
+use Rattle.graph.specs.Closure.{Chain, wait, link, closed}
+use Rattle.graph.proofs.Closure.{closed-chain, chain-closed}
 use Rattle.order.specs.Order.{earlier, waits, Before, before}
 
 -- only a later goal waits, and only goals do
@@ -42,6 +42,19 @@ chain-goals b i k (link {j = j} g a c) = (chain-goals b i j a .0, chain-goals b 
 
 pub before-goals : (b : List ℕ) (i j : ℕ) → before b i j ≡ true → Goals (goalCount b) i × Goals (goalCount b) j
 before-goals b i j h = chain-goals b i j (before-is b i j .0 h)
+
+-- where each wait goes up, so does each chain
+chain-rising : (W : ℕ → ℕ → Bool) → ((i j : ℕ) → W i j ≡ true → i < j) → (n i j : ℕ) → Chain W n i j → i < j
+chain-rising W r n i j (wait h) = r i j h
+chain-rising W r n i k (link {j = j} g a b) = omega (arith, chain-rising W r n i j a, chain-rising W r n j k b)
+
+waiting-order : (W : ℕ → ℕ → Bool) (n : ℕ) → ((i j : ℕ) → W i j ≡ true → i < j) → Order (closed W n) (Goals n)
+waiting-order W n r =
+    let chain : (i j : ℕ) → closed W n i j ≡ true → Chain W n i j = λ i j. closed-chain W n n i j (omega arith) in
+    record {
+      rising = λ i j _ _ h. chain-rising W r n i j (chain i j h);
+      chained = λ i j k _ g _ h t. chain-closed W n i k (link g (chain i j h) (chain j k t));
+    }
 
 -- it is a strict order on the goals, from lower to higher numbers
 pub before-order : (b : List ℕ) → Order (before b) (Goals (goalCount b))

@@ -1,151 +1,217 @@
--- How loops make the row of a goal and the set of the goals that may wait.
-use mathlib.Core.Path.{_≡_, refl, sym, ap, _∙_}
-use mathlib.Core.Bool.{Bool, true, false, cond, not, _&&_, _||_, false≢true}
-use mathlib.Core.Logic.{⊎-elim}
+-- How loops make the waits: later goals by twos, and the rows of the earlier ones in sequence.
+use mathlib.Core.Path.{_≡_, refl, sym, ap, ap₂, _∙_}
+use mathlib.Core.Bool.{Bool, cond, not, _&&_, and-false}
+use mathlib.Core.Logic.{dite}
 use mathlib.Core.List.{List}
-use Prim.Native.Nat.{ℕ, _+_, _-_, _*_, _%_, _^_, _≤_, _<_}
-use native.Mathlib.Nat.{mod-eq-of-lt, pow-suc}
+use Prim.Native.Nat.{ℕ, _+_, _*_, _^_, _≤_, _<_}
+use native.Mathlib.Decide.{decLt, ℕ-discrete}
 use native.Mathlib.Numerals.{add-one}
 use native.Mathlib.Omega.{arith}
-use lib.Dec.{eqb, leb, ltb}
-use lib.ListN.{getD}
-use lib.Pow.{pow-pos, pow-lt, pow-mono}
-use borrow.Author.Tests.{lt-ltb, le-ltb, le-leb, ltb-true, leb-true, eqb-true, eqb-false}
-use Rattle.logic.proofs.Bools.{test, by-test, iff, and-true, and-i, or-elim, or-l, or-r, not-true, is-false}
-use Rattle.sets.specs.Sets.{has, union, single, subset}
-use Rattle.sets.proofs.Laws.{has-empty, has-union, has-single, none-empty, ext}
-use Rattle.sets.proofs.Builder.{setOf-ext, setOf-more, setOf-lt, has-setOf, has-setOf-in, single-lt, union-lt, members-lt}
+use lib.Bits.{and-zero-l}
+use lib.Dec.{eqb, ltb}
+use lib.ListN.{length, getD, set, replicate, length-set, length-replicate, getD-replicate}
+use lib.Pow.{pow-pos}
+use lib.Seq.{getD-set-same, getD-set-other}
+use borrow.Author.Tests.{lt-ltb, le-ltb}
+use Rattle.sets.specs.Sets.{union, single, setOf}
+use Rattle.sets.proofs.Builder.{setOf-more}
+use Rattle.arrays.specs.Table.{table}
+use Rattle.arrays.proofs.Table.{table-length, table-at, table-past, table-ext}
 use Rattle.judge.specs.ByRows.{waitsBy}
-use Rattle.judge.proofs.Grounded.{none-waits, waits-for-none}
-use Rattle.order.specs.Arrays.{waitsAt, waitRow, active}
+use Rattle.judge.specs.Ties.{tiesOf, tied}
+use Rattle.judge.specs.Halves.{halves, whole}
+use Rattle.judge.specs.declared.Halves.{Halves}
+use Rattle.judge.proofs.Tied.{waits-ties}
+use Rattle.judge.proofs.ByHalves.{whole-halves}
+use Rattle.order.specs.Arrays.{waitsAt, waitRow, tiesAt, lowTies, highTies, tiesIn, rowWith, putLater, putTwo}
 
--- the goals from place k on that have a variable that is not ground
-module _ (ground : ℕ) (goals : List ℕ) (n : ℕ) where
-  active-in : (k j : ℕ) → k ≤ j → j < n → subset (getD goals j 0) ground ≡ false → has (active ground goals n k) j ≡ true
-  unfolding active
-  active-in k j l h s =
-      has-setOf-in n (λ x. leb k x && not (subset (getD goals x 0) ground)) j h
-      ∙ and-i (leb k j) (not (subset (getD goals j 0) ground)) (le-leb k j l) (ap not s)
+-- ---- a loop that changes the rows in place, in sequence
+module _ (m : ℕ) (old : List ℕ) (new : ℕ → ℕ) where
+  -- the rows below i are new, the others are as they were
+  pub record Putting (i : ℕ) (rows : List ℕ) : Type 0 where
+    pub size : length rows ≡ m
+    pub done : (k : ℕ) → k < i → getD rows k 0 ≡ new k
+    pub left : (k : ℕ) → i ≤ k → getD rows k 0 ≡ getD old k 0
 
-  pub active-out : (k j : ℕ) → has (active ground goals n k) j ≡ true → (k ≤ j) × (j < n) × (subset (getD goals j 0) ground ≡ false)
-  unfolding active
-  active-out k j e =
-      let s = subset (getD goals j 0) ground in
-      let t = and-true (ltb j n) (leb k j && not s) (sym (has-setOf n (λ x. leb k x && not (subset (getD goals x 0) ground)) j) ∙ e) in
-      let u = and-true (leb k j) (not s) (t .1) in
-      (leb-true k j (u .0), ltb-true j n (t .0), not-true s (u .1))
+  pub putting-none : length old ≡ m → Putting 0 old
+  putting-none s = record { size = s; done = λ k h. absurd (omega arith); left = λ k h. refl }
 
-  active-lt : (k : ℕ) → active ground goals n k < 2 ^ n
-  active-lt k = members-lt n (active ground goals n k) (λ j e. active-out k j e .1)
-
-  pub active-small : (k : ℕ) → n ≤ 32 → active ground goals n k < 2 ^ 32
-  active-small k h = omega (arith, active-lt k, pow-mono {i = n} {j = 32} h)
-
-  -- there is none behind the last goal
-  pub active-none : 0 ≡ active ground goals n n
-  active-none = sym (none-empty (active ground goals n n) (λ j. is-false (has (active ground goals n n) j) (λ e. absurd (omega (arith, active-out n j e .0, active-out n j e .1)))))
-
-  -- one goal more, from the last down
-  active-more : (k : ℕ) → k < n
-      → (let rest = active ground goals n (k + 1) in cond (subset (getD goals k 0) ground) rest (union rest (single k))) ≡ active ground goals n k
-  active-more k l =
-      by-test (λ (m : ℕ). m ≡ active ground goals n k) (subset (getD goals k 0) ground)
-      (λ s.
-      ext n rest (active ground goals n k) (active-lt (k + 1)) (active-lt k)
-      (λ j h.
-      iff (has rest j) (has (active ground goals n k) j) (old j)
-      (λ e.
-      let o = active-out k j e in
-      more j e (λ q. false≢true (sym (o .2) ∙ ap (λ (x : ℕ). subset (getD goals x 0) ground) (sym q) ∙ s)))))
-      (λ s.
-      ext n (union rest (single k)) (active ground goals n k) (union-lt n rest (single k) (active-lt (k + 1)) (single-lt n k l)) (active-lt k)
-      (λ j h.
-      has-union rest (single k) j
-      ∙ iff (has rest j || has (single k) j) (has (active ground goals n k) j)
-      (λ e.
-      or-elim (has rest j) (has (single k) j) e (old j)
-      (λ t. ap (has (active ground goals n k)) (sym (eqb-true k j (sym (has-single k j) ∙ t))) ∙ active-in k k (omega arith) l s))
-      (λ e.
-      ⊎-elim (λ t. or-r (has rest j) (has (single k) j) (has-single k j ∙ t)) (λ t. or-l (has rest j) (has (single k) j) (more j e (eqb-false k j t)))
-      (test (eqb k j)))))
+  pub putting-more : (i : ℕ) (rows : List ℕ) (v : ℕ) → i < m → Putting i rows → v ≡ new i → Putting (i + 1) (set rows i v)
+  putting-more i rows v h p e =
+      record {
+        size = length-set rows i v ∙ p .size;
+        done = λ k b. at k b (ℕ-discrete k i);
+        left = λ k b. getD-set-other rows i k v 0 (λ q. absurd (omega (arith, q))) ∙ p .left k (omega arith);
+      }
     where
-      rest : ℕ
-      rest = active ground goals n (k + 1)
+      at : (k : ℕ) → k < i + 1 → Dec (k ≡ i) → getD (set rows i v) k 0 ≡ new k
+      at k b (yes q) = ap (λ (x : ℕ). getD (set rows i v) x 0) q ∙ getD-set-same rows i v 0 (omega (arith, p .size)) ∙ e ∙ ap new (sym q)
+      at k b (no q) = getD-set-other rows i k v 0 q ∙ p .done k (less k b q)
+        where
+          less : (k : ℕ) → k < i + 1 → (k ≡ i → ⊥) → k < i
+          less k b q = dite (decLt k i) (λ l. l) (λ l. absurd (q (omega arith)))
 
-      old : (j : ℕ) → has rest j ≡ true → has (active ground goals n k) j ≡ true
-      old j e =
-          let o = active-out (k + 1) j e in
-          active-in k j (omega arith) (o .1) (o .2)
+  pub putting-all : (i : ℕ) (rows : List ℕ) → Putting i rows → ((k : ℕ) → i ≤ k → k < m → new k ≡ getD old k 0) → rows ≡ table m m new
+  putting-all i rows p same =
+      table-ext m m new rows (p .size)
+      (λ k b _. dite (decLt k i) (p .done k) (λ l. p .left k (omega arith) ∙ sym (same k (omega arith) b)))
+      (λ k b l. absurd (omega arith))
 
-      more : (j : ℕ) → has (active ground goals n k) j ≡ true → (k ≡ j → ⊥) → has rest j ≡ true
-      more j e d =
-          let o = active-out k j e in
-          active-in (k + 1) j (omega arith) (o .1) (o .2)
+-- ---- one later goal in the rows
+module _ (m : ℕ) (rows : List ℕ) (ties : ℕ → ℕ) (later j : ℕ) where
+  with-test : (i : ℕ) (t : Bool) → ltb i j ≡ t → rowWith rows ties later j i ≡ cond (t && tied (ties i) later) (union (getD rows i 0) (single j)) (getD rows i 0)
+  with-test i t e = ap (λ (t : Bool). cond (t && tied (ties i) later) (union (getD rows i 0) (single j)) (getD rows i 0)) e
 
-  pub active-turn : (k m r : ℕ) → 0 < k → k ≤ n → m ≡ active ground goals n k
-      → r ≡ cond (subset (getD goals (k - 1) 0) ground) m (union m (single (k - 1))) → r ≡ active ground goals n (k - 1)
-  active-turn k m r z l e g =
-      let q : k ≡ k - 1 + 1 = omega arith in
-      g ∙ ap (λ (x : ℕ). cond (subset (getD goals (k - 1) 0) ground) x (union x (single (k - 1)))) (e ∙ ap (active ground goals n) q)
-      ∙ active-more (k - 1) (omega arith)
+  -- the row of an earlier goal, and of another
+  with-earlier : (i : ℕ) → i < j → rowWith rows ties later j i ≡ cond (tied (ties i) later) (union (getD rows i 0) (single j)) (getD rows i 0)
+  with-earlier i l = with-test i _ (lt-ltb i j l)
 
-module _ (ground free : ℕ) (goals rows : List ℕ) (i : ℕ) where
-  -- no goal up to goal i + 1 waits for it
-  pub row-none : 0 ≡ waitRow ground free goals rows (i + 1) i
+  with-other : (i : ℕ) → j ≤ i → rowWith rows ties later j i ≡ getD rows i 0
+  with-other i l = with-test i _ (le-ltb i j l)
+
+  put-at : (i : ℕ) → i < m → getD (putLater m rows ties later j) i 0 ≡ rowWith rows ties later j i
+  unfolding putLater
+  put-at i b = table-at m m (rowWith rows ties later j) i b b
+
+-- a row that a test of halves changes, as the test of the whole sets does
+pub with-halves : (h : ℕ) (ties x : Halves) (later j row v one : ℕ) (add : Bool) → v ≡ cond add (union row one) row
+    → add ≡ tied (whole h ties) (whole h x) → x ≡ halves h later → one ≡ single j → v ≡ cond (tied (whole h ties) later) (union row (single j)) row
+with-halves h ties x later j row v one add ev ea ex eo =
+    ev
+    ∙ ap₂ (λ (t : Bool) (m : ℕ). cond t (union row m) row) (ea ∙ ap (tied (whole h ties)) (ap (whole h) ex ∙ whole-halves h later)) eo
+
+-- a goal without a variable waits for nothing
+put-nothing : (m : ℕ) (rows : List ℕ) (ties : ℕ → ℕ) (j : ℕ) → length rows ≡ m → putLater m rows ties 0 j ≡ rows
+unfolding putLater
+put-nothing m rows ties j s =
+    sym (table-ext m m (rowWith rows ties 0 j) rows s (λ i b k. sym (same i)) (λ i b k. absurd (omega arith)))
+  where
+    same : (i : ℕ) → rowWith rows ties 0 j i ≡ getD rows i 0
+    same i =
+        ap (λ (t : Bool). cond t (union (getD rows i 0) (single j)) (getD rows i 0))
+        (ap (λ (x : ℕ). ltb i j && not (eqb x 0)) (and-zero-l (ties i)) ∙ and-false (ltb i j))
+
+-- ---- the loop over the rows of the earlier goals, for two later ones
+module _ (m : ℕ) (old : List ℕ) (ties : ℕ → ℕ) (later next j : ℕ) where
+  -- row i with both
+  abbrev pub rowTwo : ℕ → ℕ
+  rowTwo i = rowWith (putLater m old ties later j) ties next (j + 1) i
+
+  -- the row of a goal before both, of the first of both, and of another
+  pub two-earlier : (i : ℕ) → i < m → i < j → (row r : ℕ) → row ≡ getD old i 0
+      → r ≡ cond (tied (ties i) later) (union row (single j)) row → cond (tied (ties i) next) (union r (single (j + 1))) r ≡ rowTwo i
+  two-earlier i b l row r e q =
+      ap (λ (x : ℕ). cond (tied (ties i) next) (union x (single (j + 1))) x)
+      (q ∙ ap (λ (x : ℕ). cond (tied (ties i) later) (union x (single j)) x) e
+      ∙ sym (put-at m old ties later j i b ∙ with-earlier m old ties later j i l))
+      ∙ sym (with-earlier m (putLater m old ties later j) ties next (j + 1) i (omega arith))
+
+  two-first : j < m → (row : ℕ) → row ≡ getD old j 0 → cond (tied (ties j) next) (union row (single (j + 1))) row ≡ rowTwo j
+  two-first b row e =
+      ap (λ (x : ℕ). cond (tied (ties j) next) (union x (single (j + 1))) x)
+      (e ∙ sym (put-at m old ties later j j b ∙ with-other m old ties later j j (omega arith)))
+      ∙ sym (with-earlier m (putLater m old ties later j) ties next (j + 1) j (omega arith))
+
+  two-other : (i : ℕ) → j + 1 ≤ i → i < m → rowTwo i ≡ getD old i 0
+  two-other i l b =
+      with-other m (putLater m old ties later j) ties next (j + 1) i l ∙ put-at m old ties later j i b
+      ∙ with-other m old ties later j i (omega arith)
+
+  -- after the loop the row of the first of both is changed
+  pub two-all : (i : ℕ) (rows : List ℕ) (v : ℕ) → j < m → i ≤ j → j ≤ i → Putting m old rowTwo i rows
+      → v ≡ cond (tied (ties j) next) (union (getD rows j 0) (single (j + 1))) (getD rows j 0) → set rows j v ≡ putTwo m old ties later next j
+  unfolding putLater
+  two-all i rows v b l g p e =
+      putting-all m old rowTwo (j + 1) (set rows j v)
+      (putting-more m old rowTwo j rows v b (record { size = p .size; done = λ k h. p .done k (omega arith); left = λ k h. p .left k (omega arith) })
+      (e ∙ two-first b (getD rows j 0) (p .left j l)))
+      two-other
+
+-- ---- the loop over the later goals
+module _ (m w n ground : ℕ) (goals listed : List ℕ) (hn : n ≤ m) (hg : ground < 2 ^ w) where
+  -- the waits for goal i + 1 of the first j goals
+  abbrev row : ℕ → ℕ → ℕ
+  row j i = waitRow w ground 0 goals listed j i
+
+  -- no goal waits yet
+  pub waits-none : replicate m 0 ≡ table m n (λ i. waitRow w ground 0 goals listed 0 i)
+  unfolding waitRow setOf
+  waits-none =
+      table-ext m n (row 0) (replicate m 0) (length-replicate {A = ℕ} m 0) (λ i b k. getD-replicate {A = ℕ} m i 0 0 b) (λ i b k. getD-replicate {A = ℕ} m i 0 0 b)
+
+  -- one goal more, for an earlier goal and for another
+  row-more : (i j : ℕ) → i < j → cond (waitsBy ground 0 listed w (getD goals i 0) (getD goals j 0)) (union (row j i) (single j)) (row j i) ≡ row (j + 1) i
   unfolding waitRow
-  row-none =
-      setOf-ext (i + 1) 0 (λ j. waitsAt ground free goals rows i j) (pow-pos (i + 1))
-      (λ j h.
-      has-empty j
-      ∙ sym (ap (λ (t : Bool). t && waitsBy ground free rows 64 (getD goals i 0) (getD goals j 0)) (le-ltb i j (omega arith))))
-
-  -- one goal more
-  pub row-more : (j one : ℕ) → i < j → one ≡ single j
-      → (let row = waitRow ground free goals rows j i in cond (waitsBy ground free rows 64 (getD goals i 0) (getD goals j 0)) (union row one) row)
-      ≡ waitRow ground free goals rows (j + 1) i
-  unfolding waitRow
-  row-more j one h e =
-      let row = waitRow ground free goals rows j i in
-      let waits = waitsBy ground free rows 64 (getD goals i 0) (getD goals j 0) in
+  row-more i j h =
+      let waits = waitsBy ground 0 listed w (getD goals i 0) (getD goals j 0) in
       rw (add-one j)
-      (ap (λ (m : ℕ). cond waits (union row m) row) e ∙ ap (λ (t : Bool). cond (t && waits) (union row (single j)) row) (sym (lt-ltb i j h))
-      ∙ sym (setOf-more j (λ k. waitsAt ground free goals rows i k)))
+      (ap (λ (t : Bool). cond (t && waits) (union (row j i) (single j)) (row j i)) (sym (lt-ltb i j h))
+      ∙ sym (setOf-more j (λ k. waitsAt w ground 0 goals listed i k)))
 
-  pub row-small : (n : ℕ) → n ≤ 32 → waitRow ground free goals rows n i < 2 ^ 32
+  row-same : (i j : ℕ) → j ≤ i → row j i ≡ row (j + 1) i
   unfolding waitRow
-  row-small n h = omega (arith, setOf-lt n (λ j. waitsAt ground free goals rows i j), pow-mono {i = n} {j = 32} h)
+  row-same i j h =
+      let waits = waitsBy ground 0 listed w (getD goals i 0) (getD goals j 0) in
+      rw (add-one j)
+      (ap (λ (t : Bool). cond (t && waits) (union (row j i) (single j)) (row j i)) (sym (le-ltb i j h))
+      ∙ sym (setOf-more j (λ k. waitsAt w ground 0 goals listed i k)))
 
-  -- of the goals behind goal i + 1 the row has those that wait
-  pub row-has : (n j : ℕ) → i < j → j < n → has (waitRow ground free goals rows n i) j ≡ waitsBy ground free rows 64 (getD goals i 0) (getD goals j 0)
-  unfolding waitRow
-  row-has n j l h =
-      has-setOf-in n (λ k. waitsAt ground free goals rows i k) j h
-      ∙ ap (λ (t : Bool). t && waitsBy ground free rows 64 (getD goals i 0) (getD goals j 0)) (lt-ltb i j l)
+  module _ (h : ℕ) (low high : List ℕ) (el : low ≡ lowTies m h w n ground goals listed) (eh : high ≡ highTies m h w n ground goals listed) where
+    -- the ties of each goal, from their halves
+    abbrev ties : ℕ → ℕ
+    ties i = tiesIn h low high i
 
-  -- and it has no other
-  row-out : (n j : ℕ) → has (waitRow ground free goals rows n i) j ≡ true
-      → (i < j) × (j < n) × (waitsBy ground free rows 64 (getD goals i 0) (getD goals j 0) ≡ true)
-  unfolding waitRow
-  row-out n j e =
-      let w = waitsBy ground free rows 64 (getD goals i 0) (getD goals j 0) in
-      let t = and-true (ltb j n) (ltb i j && w) (sym (has-setOf n (λ k. waitsAt ground free goals rows i k) j) ∙ e) in
-      let u = and-true (ltb i j) w (t .1) in
-      (ltb-true i j (u .0), ltb-true j n (t .0), u .1)
+    ties-at : (i : ℕ) → i < n → ties i ≡ tiesOf ground 0 listed w (getD goals i 0)
+    unfolding lowTies highTies
+    ties-at i l =
+        ap₂ (λ (x y : List ℕ). tiesIn h x y i) el eh
+        ∙ ap₂ (λ (x y : ℕ). y * 2 ^ h + x) (table-at m n (λ k. tiesAt h w ground goals listed k .low) i (omega arith) l)
+        (table-at m n (λ k. tiesAt h w ground goals listed k .high) i (omega arith) l)
+        ∙ whole-halves h (tiesOf ground 0 listed w (getD goals i 0))
 
-  -- a goal that waits for goal i + 1 has a variable that is not ground
-  pub row-active : (n j : ℕ) → has (waitRow ground free goals rows n i) j ≡ true → has (active ground goals n (i + 1)) j ≡ true
-  row-active n j e =
-      let o = row-out n j e in
-      active-in ground goals n (i + 1) j (omega arith) (o .1)
-      (is-false (subset (getD goals j 0) ground) (λ s. false≢true (sym (waits-for-none ground free rows 64 (getD goals i 0) (getD goals j 0) s) ∙ o .2)))
+    -- the next later goal is put into the rows
+    waits-more : (j later : ℕ) (rows : List ℕ) → j < n → later ≡ getD goals j 0 → rows ≡ table m n (row j)
+        → putLater m rows ties later j ≡ table m n (row (j + 1))
+    unfolding putLater
+    waits-more j later rows l e er =
+        table-ext m n (row (j + 1)) (putLater m rows ties later j) (table-length m m (rowWith rows ties later j)) inside past
+      where
+        row-at : (i : ℕ) → i < m → i < n → getD rows i 0 ≡ row j i
+        row-at i b k = ap (λ (x : List ℕ). getD x i 0) er ∙ table-at m n (row j) i b k
 
-  -- no goal waits for goal i + 1 if it has ground variables alone
-  pub row-empty : (n : ℕ) → subset (getD goals i 0) ground ≡ true → (j : ℕ) → has (waitRow ground free goals rows n i) j ≡ true → has 0 j ≡ true
-  row-empty n s j e = absurd (false≢true (sym (none-waits ground free rows 64 (getD goals i 0) (getD goals j 0) s) ∙ row-out n j e .2))
+        waits-at : (i : ℕ) → i < n → tied (ties i) later ≡ waitsBy ground 0 listed w (getD goals i 0) (getD goals j 0)
+        waits-at i k =
+            ap (λ (x : ℕ). tied x later) (ties-at i k)
+            ∙ sym (waits-ties ground 0 listed w (getD goals i 0) hg (pow-pos w) later)
+            ∙ ap (waitsBy ground 0 listed w (getD goals i 0)) e
 
--- the single set of the goal behind goal i + 1, and those that follow, as the machine computes them
-pub one-next : (j one : ℕ) → one ≡ single j → 2 * one ≡ single (j + 1)
-one-next j one e = omega (arith, e, pow-suc 2 j, ap (λ (x : ℕ). 2 ^ x) (add-one j))
+        inside : (i : ℕ) → i < m → i < n → getD (putLater m rows ties later j) i 0 ≡ row (j + 1) i
+        inside i b k =
+            put-at m rows ties later j i b
+            ∙ dite (decLt i j)
+            (λ l.
+            with-earlier m rows ties later j i l
+            ∙ ap₂ (λ (t : Bool) (r : ℕ). cond t (union r (single j)) r) (waits-at i k) (row-at i b k) ∙ row-more i j l)
+            (λ l. with-other m rows ties later j i (omega arith) ∙ row-at i b k ∙ row-same i j (omega arith))
 
-pub one-first : (i : ℕ) → i < 32 → 2 * 2 ^ i % 2 ^ 64 ≡ single (i + 1)
-one-first i h = ap (λ (x : ℕ). x % 2 ^ 64) (one-next i (2 ^ i) refl) ∙ mod-eq-of-lt (pow-lt {i = i + 1} {j = 64} (omega arith))
+        past : (i : ℕ) → i < m → n ≤ i → getD (putLater m rows ties later j) i 0 ≡ 0
+        past i b k =
+            put-at m rows ties later j i b
+            ∙ with-other m rows ties later j i (omega arith) ∙ ap (λ (x : List ℕ). getD x i 0) er ∙ table-past m n (row j) i k
+
+    -- the next two are
+    pub waits-two : (j later next : ℕ) (rows : List ℕ) → j + 1 < n → later ≡ getD goals j 0 → next ≡ getD goals (j + 1) 0
+        → rows ≡ table m n (λ i. waitRow w ground 0 goals listed j i)
+        → putTwo m rows (tiesIn h low high) later next j ≡ table m n (λ i. waitRow w ground 0 goals listed (j + 2) i)
+    waits-two j later next rows l e f er =
+        let two : j + 1 + 1 ≡ j + 2 = omega arith in
+        waits-more (j + 1) next (putLater m rows ties later j) l f (waits-more j later rows (omega arith) e er)
+        ∙ ap (λ (k : ℕ). table m n (row k)) two
+
+    -- the last is, beside a goal without a variable
+    pub waits-last : (j later : ℕ) (rows : List ℕ) → j + 1 ≡ n → later ≡ getD goals j 0 → rows ≡ table m n (λ i. waitRow w ground 0 goals listed j i)
+        → putTwo m rows (tiesIn h low high) later 0 j ≡ table m n (λ i. waitRow w ground 0 goals listed n i)
+    unfolding putLater
+    waits-last j later rows s e er =
+        put-nothing m (putLater m rows ties later j) ties (j + 1) (table-length m m (rowWith rows ties later j))
+        ∙ waits-more j later rows (omega arith) e er ∙ ap (λ (k : ℕ). table m n (row k)) s

@@ -1,32 +1,63 @@
--- The waits from the decoded clause: the goals' variable sets as an array, goal i + 1 at place i, and the listed pairs as rows.
-use mathlib.Core.Bool.{Bool, not, _&&_}
+-- The waits from the decoded clause: the goals' variable sets as an array, goal i + 1 at place i, and the listed pairs as rows. The variables are those below w.
+use mathlib.Core.Bool.{Bool, false, _&&_, cond}
 use mathlib.Core.List.{List}
-use Prim.Native.Nat.{ℕ}
-use lib.Dec.{leb, ltb}
+use Prim.Native.Nat.{ℕ, zero, suc, _+_}
+use lib.Dec.{ltb}
 use lib.ListN.{getD}
-use Rattle.sets.specs.Sets.{setOf, subset}
+use Rattle.sets.specs.Sets.{union, single, setOf}
 use Rattle.arrays.specs.Table.{table}
 use Rattle.judge.specs.ByRows.{waitsBy}
-use Rattle.record.specs.Fields.{goalCount}
+use Rattle.judge.specs.Ties.{tiesOf, tied}
+use Rattle.judge.specs.Halves.{halves, whole}
+use Rattle.judge.specs.declared.Halves.{Halves}
+use Rattle.fields.specs.Fields.{goalCount}
 use Rattle.graph.specs.Graph.{graphOf}
 use Rattle.graph.specs.declared.Graph.{Graph}
 use Rattle.order.specs.Order.{waits}
 
 -- goal j + 1 waits for the earlier goal i + 1
-abbrev pub waitsAt : ℕ → ℕ → List ℕ → List ℕ → ℕ → ℕ → Bool
-waitsAt ground free sets rows i j = ltb i j && waitsBy ground free rows 64 (getD sets i 0) (getD sets j 0)
+abbrev pub waitsAt : ℕ → ℕ → ℕ → List ℕ → List ℕ → ℕ → ℕ → Bool
+waitsAt w ground free sets listed i j = ltb i j && waitsBy ground free listed w (getD sets i 0) (getD sets j 0)
+
+-- goal j waits for goal i; 0 is no goal
+abbrev pub waitsIn : ℕ → ℕ → ℕ → List ℕ → List ℕ → ℕ → ℕ → Bool
+waitsIn w ground free sets listed zero j = false
+waitsIn w ground free sets listed (suc i) zero = false
+waitsIn w ground free sets listed (suc i) (suc j) = waitsAt w ground free sets listed i j
 
 -- those of the first n goals that wait for goal i + 1
-unfoldable pub waitRow : ℕ → ℕ → List ℕ → List ℕ → ℕ → ℕ → ℕ
-waitRow ground free sets rows n i = setOf n (λ j. waitsAt ground free sets rows i j)
+unfoldable pub waitRow : ℕ → ℕ → ℕ → List ℕ → List ℕ → ℕ → ℕ → ℕ
+waitRow w ground free sets listed n i = setOf n (λ j. waitsAt w ground free sets listed i j)
 
--- those of the first n goals, from place k on, that have a variable that is not ground
-unfoldable pub active : ℕ → List ℕ → ℕ → ℕ → ℕ
-active ground sets n k = setOf n (λ j. leb k j && not (subset (getD sets j 0) ground))
+-- the ties of goal i + 1, in halves of h variables
+abbrev pub tiesAt : ℕ → ℕ → ℕ → List ℕ → List ℕ → ℕ → Halves
+tiesAt h w ground sets listed i = halves h (tiesOf ground 0 listed w (getD sets i 0))
+
+-- the low halves of the ties of the first n goals, of m at the most; and the high ones
+unfoldable pub lowTies : ℕ → ℕ → ℕ → ℕ → ℕ → List ℕ → List ℕ → List ℕ
+lowTies m h w n ground sets listed = table m n (λ i. tiesAt h w ground sets listed i .low)
+
+unfoldable pub highTies : ℕ → ℕ → ℕ → ℕ → ℕ → List ℕ → List ℕ → List ℕ
+highTies m h w n ground sets listed = table m n (λ i. tiesAt h w ground sets listed i .high)
+
+-- the ties of goal i + 1 whole, from the halves of all
+abbrev pub tiesIn : ℕ → List ℕ → List ℕ → ℕ → ℕ
+tiesIn h low high i = whole h (record { low = getD low i 0; high = getD high i 0 })
+
+-- row i once goal j + 1, of the variable set `later`, is put into the rows of the earlier goals for which it waits; and all m rows
+abbrev pub rowWith : List ℕ → (ℕ → ℕ) → ℕ → ℕ → ℕ → ℕ
+rowWith rows ties later j i = cond (ltb i j && tied (ties i) later) (union (getD rows i 0) (single j)) (getD rows i 0)
+
+unfoldable pub putLater : ℕ → List ℕ → (ℕ → ℕ) → ℕ → ℕ → List ℕ
+putLater m rows ties later j = table m m (rowWith rows ties later j)
+
+-- the rows once goals j + 1 and j + 2, of the variable sets `later` and `next`, are put into them
+abbrev pub putTwo : ℕ → List ℕ → (ℕ → ℕ) → ℕ → ℕ → ℕ → List ℕ
+putTwo m rows ties later next j = putLater m (putLater m rows ties later j) ties next (j + 1)
 
 -- the graph of the waits of n goals
-unfoldable pub waitRows : ℕ → ℕ → List ℕ → List ℕ → Graph
-waitRows n ground sets rows = record { n = n; rows = table 32 n (λ i. waitRow ground 0 sets rows n i) }
+unfoldable pub waitRows : ℕ → ℕ → ℕ → List ℕ → List ℕ → Graph
+waitRows w n ground sets listed = graphOf n (waitsIn w ground 0 sets listed)
 
 -- the waits of a record as a graph
 unfoldable pub waiting : List ℕ → Graph

@@ -1,13 +1,13 @@
 -- Examples of waits and orders; they hold by computation.
 use mathlib.Core.Path.{_≡_, refl}
-use mathlib.Core.List.{List, [], _∷_, _++_}
+use mathlib.Core.List.{List, [], _∷_}
 use Prim.Native.Nat.{ℕ}
 use lib.ListN.{take}
 use Rattle.logic.specs.Quantifiers.{every, someBelow}
 use Rattle.sets.specs.Sets.{has, setOf}
 use Rattle.arrays.specs.Table.{tableFrom}
 use Rattle.graph.specs.Graph.{goalsOf, rowsOf}
-use Rattle.record.specs.Fields.{number, placeAfter, goalSet, listed}
+use Rattle.fields.specs.Fields.{number, placeAfter, goalSet, listed}
 use Rattle.judge.specs.Independence.{knownIndependent, independent}
 use Rattle.order.specs.Order.{waits, before, order}
 use Rattle.order.specs.Arrays.{waiting}

@@ -4,8 +4,8 @@ use mathlib.Core.List.{List}
 use Prim.Native.Nat.{ℕ}
 use lib.Dec.{leb, ltb}
 use Rattle.fields.specs.Facts.{groundAt, freeAt}
-use Rattle.record.specs.Fields.{goalCount, goalSet, listed}
-use Rattle.expression.specs.Closure.{Chain, closed}
+use Rattle.fields.specs.Fields.{goalCount, goalSet, listed}
+use Rattle.graph.specs.Closure.{Chain, closed}
 use Rattle.graph.specs.Graph.{graphOf}
 use Rattle.graph.specs.declared.Graph.{Graph}
 use Rattle.judge.specs.Independence.{independent}

@@ -92,7 +92,7 @@ module _ (b : List ℕ) (w : WellFormed b) where
     where
       by : Settled b → values (W.Refused x) ≡ answer (plan b) buf → ⊥
       by (four-goals q e (n, ga, gb, gc, gd)) k = absurd (let z = ap (λ (v : Values). v .a) (k ∙ without buf q e) in omega (arith, z, ga .0))
-      by (a-text t e s m) k = absurd (let z = ap (λ (v : Values). v .length) (k ∙ fitting buf t e m room) in omega (arith, z, s))
+      by (a-text t e s m) k = absurd (let z = ap (λ (v : Values). v .size) (k ∙ fitting buf t e m room) in omega (arith, z, s))
 
   -- "no form" is answered with the plan's four goals,
   pub none-planned : (buf : List ℕ) {r : Written} (x : Goals) → values r ≡ answer (plan b) buf → r ≡ W.NoForm x → length buf ≡ 160 → noForm (four x) ≡ plan b
@@ -112,7 +112,7 @@ module _ (b : List ℕ) (w : WellFormed b) where
       by : Settled b → values (W.Done n) ≡ answer (plan b) buf → (written (take n new) ≡ plan b) × (length (take n new) ≤ 146) × (n ≤ length new)
       by (four-goals q e x) k = absurd (let z = ap (λ (v : Values). v .number) (k ∙ without buf q e) in omega (arith, z))
       by (a-text t e s m) k =
-          let z : n ≡ length t = ap (λ (v : Values). v .length) (k ∙ fitting buf t e m room) in
+          let z : n ≡ length t = ap (λ (v : Values). v .size) (k ∙ fitting buf t e m room) in
           let i : new ≡ t ++ drop (length t) buf =
           g ∙ ap (λ (p : Plan). filled p buf) e ∙ ap (λ (x : Bool). pickText x (t ++ drop (length t) buf) buf) (fits-le t buf (omega (arith, m, room))) in
           let j : take n new ≡ t = ap₂ take z i ∙ take-append-seam t (drop (length t) buf) in

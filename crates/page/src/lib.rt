@@ -4,7 +4,8 @@ use libc::STDOUT_FILENO;
 use reading::Reading;
 ghost use mathlib.Core.Path.{_≡_};
 ghost use Prim.Native.Nat.{_+_, _^_, _<_, _≤_};
-ghost use lib.ListN.{length};
+ghost use lib.ListN.{length, take};
+ghost use Rattle.io.specs.Counts.{Counts};
 ghost use Rattle.text.specs.Text.{Wrote};
 ghost use Rattle.fields.specs.Fields as F;
 ghost use Rattle.record.specs.WellFormed.{WellFormed};
@@ -173,7 +174,7 @@ pub fn write(bytes: &[u8], lines: &mut [u8], text: &mut [u8]) -> Parts
 }
 
 // Prints the sheet of a record on standard output: the three parts that `write` names. `text` is the room for the MEL text.
-pub fn print(bytes: &[u8], text: &mut [u8])
+fn print(bytes: &[u8], text: &mut [u8])
     requires { ⌜ length (now text) ≡ 32768 ⌝ }
     ensures { λ _. ⌜ now (text .exit) ≡ M.melBuffer (now (bytes .entry)) (now (text .entry)) ⌝ }
 {
@@ -186,4 +187,16 @@ pub fn print(bytes: &[u8], text: &mut [u8])
     io::write_all(STDOUT_FILENO, &lines[..top]);
     io::write_all(STDOUT_FILENO, &text[..mel]);
     io::write_all(STDOUT_FILENO, &lines[top..end]);
+}
+
+// Reads a record from the file `fd` into `input`, until the array is full or the file ends, and prints its sheet. Answers the record's length.
+pub fn run(fd: i32, input: &mut [u8], text: &mut [u8]) -> usize
+    requires { ⌜ length (now input) ≡ 4096 ⌝ }
+    requires { ⌜ length (now text) ≡ 32768 ⌝ }
+    ensures { λ r. ⌜ Counts r (now (input .exit)) ⌝ }
+    ensures { λ r. ⌜ now (text .exit) ≡ M.melBuffer (take r (now (input .exit))) (now (text .entry)) ⌝ }
+{
+    let n = io::read_full(fd, input);
+    print(&input[..n], text);
+    n
 }

@@ -12,21 +12,23 @@ use Rattle.expression.specs.Text.{mark}
 use Rattle.grammar.specs.Reader.{Sign, digit, joiner, opener, closer, other, sign, Front, close, push, Level, due, done, goes, ends, run}
 use Rattle.grammar.proofs.Signs.{Is, sign-is}
 use Rattle.grammar.proofs.Sound.{next}
-use Rattle.rows.specs.Rows.{Words}
+use Rattle.grammar.proofs.Places.{byte-inside}
+use Rattle.graph.specs.Graph.{Words}
+use Rattle.rows.specs.Rows.{Linked}
 use Rattle.numbers.specs.declared.Node.{Node}
 use Rattle.numbers.specs.declared.Part.{Part}
 use Rattle.numbers.specs.declared.Part.the-variants.{Read, Bad}
-use Rattle.numbers.specs.Reads.{Comes, Answer}
+use Rattle.numbers.specs.Reads.{Comes, Answer, Primary}
 use Rattle.numbers.proofs.Runs.{takes, alike}
-use Rattle.parser.specs.Reads.{within, NoAnd, NoMark}
-use Rattle.parser.proofs.Tells.{joinKind, FrontTold, Links, clash, told-alone, told-push, told-close}
+use Rattle.parser.specs.Reads.{within, NoAnd, NoMark, Group, Sequence}
+use Rattle.parser.proofs.Tells.{joinKind, FrontTold, Links, links-sequence, links-group, clash, told-alone, told-push, told-close}
 
 -- ---- what the next byte is not
-abbrev pub Stop : Bool → ℕ → Type 0
+abbrev Stop : Bool → ℕ → Type 0
 Stop true b = NoMark b
 Stop false b = NoAnd b
 
-abbrev pub MStop : Bool → ℕ → Type 0
+abbrev MStop : Bool → ℕ → Type 0
 MStop true b = NoAnd b
 MStop false b = Unit {0}
 
@@ -63,102 +65,133 @@ mark-pos true = omega arith
 mark-pos false = omega arith
 
 -- ---- a member's answer, a join's answer
-abbrev pub MemberAnswer : Bool → List ℕ → ℕ → ℕ → List ℕ → Part → List ℕ → Type 0
-MemberAnswer k = Answer (λ d os g f x. within k d os g f x) (MStop k)
+abbrev MemberAnswer : ℕ → Bool → List ℕ → ℕ → ℕ → List ℕ → Part → List ℕ → Type 0
+MemberAnswer w k = Answer w (λ d os g f x. within k d os g f x) (MStop k)
 
-abbrev pub JoinedAnswer : Bool → List ℕ → ℕ → ℕ → List ℕ → Part → List ℕ → Type 0
-JoinedAnswer k = Answer (λ d os g f x. within k d os g none x) (Stop k)
+abbrev JoinedAnswer : ℕ → Bool → List ℕ → ℕ → ℕ → List ℕ → Part → List ℕ → Type 0
+JoinedAnswer w k = Answer w (λ d os g f x. within k d os g none x) (Stop k)
 
-pub group-member : (s : List ℕ) (a depth : ℕ) (rows : List ℕ) (r : Part) (now : List ℕ) → JoinedAnswer false s a depth rows r now → MemberAnswer true s a depth rows r now
-group-member s a depth rows (Bad p) now h = λ d os g f q. h d os f f q
-group-member s a depth rows (Read n) now h = (h .0, h .1, h .2, h .3, h .4, λ d os g f q. h .5 d os f f q)
+module _ (w : ℕ) (s : List ℕ) (a depth : ℕ) (rows : List ℕ) where
+  group-member : (r : Part) (now : List ℕ) → Group w s a depth rows r now → MemberAnswer w true s a depth rows r now
+  group-member (Bad p) now h = λ d os g f q. h d os f f q
+  group-member (Read n) now h = (h .0, h .1, h .2, h .3, h .4, λ d os g f q. h .5 d os f f q)
+
+  pub group-words : (r : Part) (n : Node) (now : List ℕ) → Group w s a depth rows r now → r ≡ Read n → Words w now
+  group-words r n now h q = (subst (λ z. Group w s a depth rows z now) q h) .4 .words
 
 -- ---- the loop over the members of a join
 abbrev Shape : ℕ → ℕ → Front → Type 0
 Shape a₀ a none = a ≡ a₀
 Shape a₀ a (some f) = a₀ < a
 
-pub record Looped (k : Bool) (s : List ℕ) (depth a₀ a : ℕ) (rows₀ : List ℕ) (set extra : ℕ) (rows : List ℕ) : Type 0 where
+-- the members before the place a are read
+pub record Looped (w : ℕ) (k : Bool) (s : List ℕ) (depth a₀ a : ℕ) (rows₀ : List ℕ) (set extra : ℕ) (rows : List ℕ) : Type 0 where
   pub front : Front
   pub from : a₀ ≤ a
   pub shape : Shape a₀ a front
-  pub told : FrontTold k front rows₀ set extra rows
-  pub words : Words rows
+  pub told : FrontTold w k front rows₀ set extra rows
+  pub words : Words w rows
   pub comes : (d : ℕ) (os : List Level) (g : Front) → d + depth ≡ 32 → Comes s a₀ (within k d os g none due) a (within k d os g front due)
 
-pub loop-start : (k : Bool) (s : List ℕ) (depth a : ℕ) (rows : List ℕ) → Words rows → Looped k s depth a a rows 0 0 rows
-loop-start k s depth a rows w = record { front = none; from = omega arith; shape = refl; told = (refl, refl); words = w; comes = λ d os g q. refl }
+pub loop-start : (w : ℕ) (k : Bool) (s : List ℕ) (depth a : ℕ) (rows : List ℕ) → Words w rows → Looped w k s depth a a rows 0 0 rows
+loop-start w k s depth a rows ws = record { front = none; from = omega arith; shape = refl; told = (refl, refl); words = ws; comes = λ d os g q. refl }
 
-module _ (k : Bool) (s : List ℕ) (depth a₀ a : ℕ) (rows₀ : List ℕ) (set extra : ℕ) (rows : List ℕ) (l : Looped k s depth a₀ a rows₀ set extra rows) where
-  module _ (r : Part) (mid : List ℕ) (h : MemberAnswer k s a depth rows r mid) where
-    pub loop-bad : (p : ℕ) → r ≡ Bad p → (now : List ℕ) → JoinedAnswer k s a₀ depth rows₀ (Bad p) now
-    loop-bad p e now =
-        let h′ : MemberAnswer k s a depth rows (Bad p) mid = subst (λ z. MemberAnswer k s a depth rows z mid) e h in
-        λ d os g f q. l .comes d os g q ∙ h′ d os g (l .front) q
+-- a member is read at the place a, and put behind those before it where the join is a sequence
+pub record Turn (w : ℕ) (k : Bool) (s : List ℕ) (depth a₀ a : ℕ) (rows₀ : List ℕ) (set extra : ℕ) (rows : List ℕ) (n : Node) (mid now : List ℕ) : Type 0 where
+  pub loop : Looped w k s depth a₀ a rows₀ set extra rows
+  pub member : MemberAnswer w k s a depth rows (Read n) mid
+  pub links : Links w k set (n .set) mid now
 
-    module _ (n : Node) (q : r ≡ Read n) where
-      ended : MemberAnswer k s a depth rows (Read n) mid
-      ended = subst (λ z. MemberAnswer k s a depth rows z mid) q h
+module _ {w depth a₀ a : ℕ} {s rows₀ rows : List ℕ} {set extra : ℕ} where
+  refuses : (k : Bool) (p : ℕ) (mid : List ℕ) → Looped w k s depth a₀ a rows₀ set extra rows → MemberAnswer w k s a depth rows (Bad p) mid
+      → JoinedAnswer w k s a₀ depth rows₀ (Bad p) mid
+  refuses k p mid l h = λ d os g f q. l .comes d os g q ∙ h d os g (l .front) q
 
-      pub loop-moved : (a₀ ≤ a) × (a < n .end) × (n .end ≤ length s)
-      loop-moved = (l .from, ended .1, ended .2)
+  pub group-bad : Looped w false s depth a₀ a rows₀ set extra rows → (r : Part) (p : ℕ) (mid : List ℕ) → Primary w s a depth rows r mid → r ≡ Bad p → Group w s a₀ depth rows₀ (Bad p) mid
+  group-bad l r p mid h q = refuses false p mid l (subst (λ z. Primary w s a depth rows z mid) q h)
 
-      pub loop-words : Words mid
-      loop-words = ended .4 .words
+  pub sequence-bad : Looped w true s depth a₀ a rows₀ set extra rows → (r : Part) (p : ℕ) (mid : List ℕ) → Group w s a depth rows r mid → r ≡ Bad p
+      → Sequence w s a₀ depth rows₀ (Bad p) mid
+  sequence-bad l r p mid h q = refuses true p mid l (group-member w s a depth rows (Bad p) mid (subst (λ z. Group w s a depth rows z mid) q h))
 
-      pub loop-more : (now : List ℕ) → Links k set (n .set) mid now → getD s (n .end) 0 ≡ mark k → Looped k s depth a₀ (n .end + 1) rows₀ (union set (n .set)) (clash extra (n .extra) set (n .set)) now
-      loop-more now ln b =
-          let m = ended in
-          let x = m .0 in
-          let lt = m .1 in
-          let le = l .from in
-          record {
-            front = some (push k (l .front) x);
-            from = omega arith;
-            shape = omega arith;
-            told = told-push k rows₀ set extra rows x (n .kind) (n .set) (n .extra) mid now (l .front) (l .told) (m .4) ln;
-            words = ln .words;
-            comes = λ d os g p.
-                l .comes d os g p ∙ m .5 d os g (l .front) p
-                ∙ takes s (n .end) (mark k) (within k d os g (l .front) (done x)) (within k d os g (some (push k (l .front) x)) due) (mark-pos k) b (marks k d os g (l .front) x);
-          }
+  pub group-turn : Looped w false s depth a₀ a rows₀ set extra rows → (r : Part) (n : Node) (mid : List ℕ) → Primary w s a depth rows r mid → r ≡ Read n
+      → Turn w false s depth a₀ a rows₀ set extra rows n mid mid
+  group-turn l r n mid h q =
+      let m : Primary w s a depth rows (Read n) mid = subst (λ z. Primary w s a depth rows z mid) q h in
+      record { loop = l; member = m; links = links-group w set (n .set) mid (m .4 .words) }
 
-      settled : (x : Expr) → ((getD s (n .end) 0 ≡ mark k) → ⊥) → MStop k (getD s (n .end) 0) → (f : Front) (d : ℕ) (os : List Level) (g : Front)
-          → run (drop (n .end) s) (n .end) (within k d os g f (done x)) ≡ run (drop (n .end) s) (n .end) (within k d os g none (done (close f x)))
-      settled x b m f d os g =
-          alike s (n .end) (within k d os g f (done x)) (within k d os g none (done (close f x)))
-          (settles k d os g f x (getD s (n .end) 0) (sign (getD s (n .end) 0)) (sign-is (getD s (n .end) 0)) (stop k (getD s (n .end) 0) m b)) (ends-alike k os g f x (n .end))
+  pub sequence-turn : Looped w true s depth a₀ a rows₀ set extra rows → (r : Part) (n : Node) (mid now : List ℕ) → Group w s a depth rows r mid → r ≡ Read n
+      → Linked w (n .set) set mid now → Turn w true s depth a₀ a rows₀ set extra rows n mid now
+  sequence-turn l r n mid now h q k =
+      record {
+        loop = l;
+        member = group-member w s a depth rows (Read n) mid (subst (λ z. Group w s a depth rows z mid) q h);
+        links = links-sequence w set (n .set) mid now k;
+      }
 
-      -- the first member is the only one: it is the join
-      pub loop-one : (now : List ℕ) → a ≡ a₀ → Links k set (n .set) mid now → ((getD s (n .end) 0 ≡ mark k) → ⊥) → JoinedAnswer k s a₀ depth rows₀ (Read n) now
-      loop-one now same ln b = go (l .front) (l .shape) (l .told) (l .comes)
-        where
-          go : (f : Front) → Shape a₀ a f → FrontTold k f rows₀ set extra rows → ((d : ℕ) (os : List Level) (g : Front) → d + depth ≡ 32 → Comes s a₀ (within k d os g none due) a (within k d os g f due))
-              → JoinedAnswer k s a₀ depth rows₀ (Read n) now
-          go none sh td cm =
-              let m = ended in (
-                m .0,
-                omega (arith, m .1),
-                m .2,
-                stop k (getD s (n .end) 0) (m .3) b,
-                told-alone k rows₀ set extra rows (m .0) (n .kind) (n .set) (n .extra) mid now td (m .4) ln,
-                λ d os g f p. cm d os g p ∙ m .5 d os g none p,
-              )
-          go (some f) sh td cm = absurd (omega arith)
+-- the node of the members read, with that of the last
+abbrev joined : Bool → ℕ → ℕ → Node → Part
+joined k set extra n = Read (record { kind = joinKind k; set = union set (n .set); extra = clash extra (n .extra) set (n .set); end = n .end })
 
-      pub loop-end : (now : List ℕ) → ((a ≡ a₀) → ⊥) → Links k set (n .set) mid now → ((getD s (n .end) 0 ≡ mark k) → ⊥)
-          → JoinedAnswer k s a₀ depth rows₀ (Read (record { kind = joinKind k; set = union set (n .set); extra = clash extra (n .extra) set (n .set); end = n .end })) now
-      loop-end now other-place ln b = go (l .front) (l .shape) (l .told) (l .comes)
-        where
-          go : (f : Front) → Shape a₀ a f → FrontTold k f rows₀ set extra rows → ((d : ℕ) (os : List Level) (g : Front) → d + depth ≡ 32 → Comes s a₀ (within k d os g none due) a (within k d os g f due))
-              → JoinedAnswer k s a₀ depth rows₀ (Read (record { kind = joinKind k; set = union set (n .set); extra = clash extra (n .extra) set (n .set); end = n .end })) now
-          go none sh td cm = absurd (other-place sh)
-          go (some f) sh td cm =
-              let m = ended in (
-                f (one (m .0)),
-                omega (arith, m .1),
-                m .2,
-                stop k (getD s (n .end) 0) (m .3) b,
-                told-close k rows₀ set extra rows (m .0) (n .kind) (n .set) (n .extra) mid now f td (m .4) ln,
-                λ d os g f′ p. cm d os g p ∙ m .5 d os g (some f) p ∙ settled (m .0) b (m .3) (some f) d os g,
-              )
+module _ {w : ℕ} {k : Bool} {s : List ℕ} {depth a₀ a : ℕ} {rows₀ : List ℕ} {set extra : ℕ} {rows : List ℕ} {n : Node} {mid now : List ℕ}
+    (u : Turn w k s depth a₀ a rows₀ set extra rows n mid now) where
+  -- a byte follows
+  pub turn-room : {b : ℕ} → 0 < b → getD s (n .end) 0 ≡ b → (a₀ ≤ a) × (a < n .end) × (n .end < length s)
+  turn-room {b} pos e = (u .loop .from, u .member .1, byte-inside s (n .end) b pos e)
+
+  pub turn-more : getD s (n .end) 0 ≡ mark k → Looped w k s depth a₀ (n .end + 1) rows₀ (union set (n .set)) (clash extra (n .extra) set (n .set)) now
+  turn-more b =
+      let l = u .loop in
+      let m = u .member in
+      let x = m .0 in
+      let lt = m .1 in
+      let le = l .from in
+      record {
+        front = some (push k (l .front) x);
+        from = omega arith;
+        shape = omega arith;
+        told = told-push w k rows₀ set extra rows x (n .kind) (n .set) (n .extra) mid now (l .front) (l .told) (m .4) (u .links);
+        words = u .links .words;
+        comes = λ d os g p.
+            l .comes d os g p ∙ m .5 d os g (l .front) p
+            ∙ takes s (n .end) (mark k) (within k d os g (l .front) (done x)) (within k d os g (some (push k (l .front) x)) due) (mark-pos k) b (marks k d os g (l .front) x);
+      }
+
+  settled : (x : Expr) → ((getD s (n .end) 0 ≡ mark k) → ⊥) → (f : Front) (d : ℕ) (os : List Level) (g : Front)
+      → run (drop (n .end) s) (n .end) (within k d os g f (done x)) ≡ run (drop (n .end) s) (n .end) (within k d os g none (done (close f x)))
+  settled x b f d os g =
+      alike s (n .end) (within k d os g f (done x)) (within k d os g none (done (close f x)))
+      (settles k d os g f x (getD s (n .end) 0) (sign (getD s (n .end) 0)) (sign-is (getD s (n .end) 0)) (stop k (getD s (n .end) 0) (u .member .3) b)) (ends-alike k os g f x (n .end))
+
+  -- the first member is the only one: it is the join
+  pub turn-one : a ≡ a₀ → ((getD s (n .end) 0 ≡ mark k) → ⊥) → JoinedAnswer w k s a₀ depth rows₀ (Read n) now
+  turn-one same b = go (u .loop .front) (u .loop .shape) (u .loop .told) (u .loop .comes)
+    where
+      go : (f : Front) → Shape a₀ a f → FrontTold w k f rows₀ set extra rows → ((d : ℕ) (os : List Level) (g : Front) → d + depth ≡ 32 → Comes s a₀ (within k d os g none due) a (within k d os g f due))
+          → JoinedAnswer w k s a₀ depth rows₀ (Read n) now
+      go none sh td cm =
+          let m = u .member in (
+            m .0,
+            omega (arith, m .1),
+            m .2,
+            stop k (getD s (n .end) 0) (m .3) b,
+            told-alone w k rows₀ set extra rows (m .0) (n .kind) (n .set) (n .extra) mid now td (m .4) (u .links),
+            λ d os g f p. cm d os g p ∙ m .5 d os g none p,
+          )
+      go (some f) sh td cm = absurd (omega arith)
+
+  pub turn-end : ((a ≡ a₀) → ⊥) → ((getD s (n .end) 0 ≡ mark k) → ⊥) → JoinedAnswer w k s a₀ depth rows₀ (joined k set extra n) now
+  turn-end other-place b = go (u .loop .front) (u .loop .shape) (u .loop .told) (u .loop .comes)
+    where
+      go : (f : Front) → Shape a₀ a f → FrontTold w k f rows₀ set extra rows → ((d : ℕ) (os : List Level) (g : Front) → d + depth ≡ 32 → Comes s a₀ (within k d os g none due) a (within k d os g f due))
+          → JoinedAnswer w k s a₀ depth rows₀ (joined k set extra n) now
+      go none sh td cm = absurd (other-place sh)
+      go (some f) sh td cm =
+          let m = u .member in (
+            f (one (m .0)),
+            omega (arith, m .1),
+            m .2,
+            stop k (getD s (n .end) 0) (m .3) b,
+            told-close w k rows₀ set extra rows (m .0) (n .kind) (n .set) (n .extra) mid now f td (m .4) (u .links),
+            λ d os g f′ p. cm d os g p ∙ m .5 d os g (some f) p ∙ settled (m .0) b (some f) d os g,
+          )

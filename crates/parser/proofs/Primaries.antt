@@ -10,12 +10,12 @@ use Rattle.expression.specs.Expr.{Expr}
 use Rattle.grammar.specs.Reader.{Sign, digit, joiner, opener, closer, other, sign, Front, Level, due, done, state, goes, opens, onward, run}
 use Rattle.grammar.proofs.Signs.{Is, sign-is}
 use Rattle.grammar.proofs.Sound.{next}
+use Rattle.grammar.proofs.Places.{byte-inside}
 use Rattle.numbers.specs.declared.Node.{Node}
 use Rattle.numbers.specs.declared.Part.{Part}
 use Rattle.numbers.specs.declared.Part.the-variants.{Read, Bad}
-use Rattle.numbers.specs.Reads.{Refuses, Primary}
-use Rattle.numbers.proofs.Runs.{stuck, run-at, run-end}
-use Rattle.numbers.proofs.Wraps.{level, opened, shuts}
+use Rattle.numbers.specs.Reads.{Comes, Refuses, Primary}
+use Rattle.numbers.proofs.Runs.{takes, stuck, run-at, run-end}
 use Rattle.parser.specs.Reads.{NoMark, Sequence, Parsed}
 
 -- ---- a sequence in parentheses
@@ -31,41 +31,65 @@ goes-none d os g f x b opener i m n = refl
 goes-none d os g f x b closer i m n = absurd (n i)
 goes-none d os g f x b other i m n = refl
 
-module _ (s : List ℕ) (a depth : ℕ) (rows : List ℕ) (byte : getD s a 0 ≡ 40) where
-  pub pri-deep : (now : List ℕ) → 32 ≤ depth → Primary s a depth rows (Bad a) now
-  pri-deep now le = λ d os g f p. stuck s a (state d os g f due) (ap (λ b. next (state d os g f due) b) byte ∙ opens-none d os g f (omega arith)) refl
+abbrev level : Front → Front → Level
+level g f = record { groups = g; primaries = f }
 
-  module _ (less : depth < 32) (r : Part) (now : List ℕ) (h : Sequence s (a + 1) (depth + 1) rows r now) where
-    pub pri-bad : (p : ℕ) → r ≡ Bad p → Primary s a depth rows (Bad p) now
-    pri-bad p q = λ d. go d
-      where
-        h′ : Sequence s (a + 1) (depth + 1) rows (Bad p) now
-        h′ = subst (λ z. Sequence s (a + 1) (depth + 1) rows z now) q h
+module _ (w : ℕ) (s : List ℕ) (a depth : ℕ) (rows : List ℕ) (byte : getD s a 0 ≡ 40) where
+  pub pri-deep : 32 ≤ depth → Primary w s a depth rows (Bad a) rows
+  pri-deep le = λ d os g f p. stuck s a (state d os g f due) (ap (λ b. next (state d os g f due) b) byte ∙ opens-none d os g f (omega arith)) refl
 
-        go : (d : ℕ) (os : List Level) (g f : Front) → d + depth ≡ 32 → Refuses s a (state d os g f due) p
-        go zero os g f e = absurd (omega arith)
-        go (suc d) os g f e = opened s a byte d os g f ∙ h′ d (level g f ∷ os) none none (omega arith)
+  opened : (d : ℕ) (os : List Level) (g f : Front) → Comes s a (state (suc d) os g f due) (a + 1) (state d (level g f ∷ os) none none due)
+  opened d os g f = takes s a 40 (state (suc d) os g f due) (state d (level g f ∷ os) none none due) (omega arith) byte refl
 
-    module _ (n : Node) (q : r ≡ Read n) where
-      inner : Sequence s (a + 1) (depth + 1) rows (Read n) now
-      inner = subst (λ z. Sequence s (a + 1) (depth + 1) rows z now) q h
+  pub pri-bad : depth < 32 → (r : Part) (p : ℕ) (now : List ℕ) → Sequence w s (a + 1) (depth + 1) rows r now → r ≡ Bad p → Primary w s a depth rows (Bad p) now
+  pri-bad less r p now h q = λ d. go d
+    where
+      h′ : Sequence w s (a + 1) (depth + 1) rows (Bad p) now
+      h′ = subst (λ z. Sequence w s (a + 1) (depth + 1) rows z now) q h
 
-      pub pri-shut : getD s (n .end) 0 ≡ 41 → Primary s a depth rows (Read (record { kind = n .kind; set = n .set; extra = n .extra; end = n .end + 1 })) now
-      pri-shut b = shuts s a byte depth (n .end) rows n now (inner .0) less (inner .1) b (inner .4) (λ d os p. inner .5 d os none none p)
+      go : (d : ℕ) (os : List Level) (g f : Front) → d + depth ≡ 32 → Refuses s a (state d os g f due) p
+      go zero os g f e = absurd (omega arith)
+      go (suc d) os g f e = opened d os g f ∙ h′ d (level g f ∷ os) none none (omega arith)
 
-      pub pri-left : ((getD s (n .end) 0 ≡ 41) → ⊥) → Primary s a depth rows (Bad (n .end)) now
-      pri-left b = λ d. go d
-        where
-          go : (d : ℕ) (os : List Level) (g f : Front) → d + depth ≡ 32 → Refuses s a (state d os g f due) (n .end)
-          go zero os g f p = absurd (omega arith)
-          go (suc d) os g f p =
-              opened s a byte d os g f ∙ inner .5 d (level g f ∷ os) none none (omega arith)
-              ∙ stuck s (n .end) (state d (level g f ∷ os) none none (done (inner .0)))
-              (goes-none d (level g f ∷ os) none none (inner .0) (getD s (n .end) 0) (sign (getD s (n .end) 0)) (sign-is (getD s (n .end) 0)) (inner .3) b) refl
+-- a sequence ends within the text
+pub sequence-within : (w : ℕ) (s : List ℕ) (a depth : ℕ) (rows : List ℕ) (r : Part) (n : Node) (now : List ℕ) → Sequence w s a depth rows r now → r ≡ Read n → n .end ≤ length s
+sequence-within w s a depth rows r n now h q = (subst (λ z. Sequence w s a depth rows z now) q h) .2
 
-      -- a byte can be taken off
-      pub pri-within : (a + 1 < n .end) × (n .end ≤ length s)
-      pri-within = (inner .1, inner .2)
+-- a parenthesis is opened at the place a, and a sequence is read behind it
+pub record Inner (w : ℕ) (s : List ℕ) (a depth : ℕ) (rows : List ℕ) (n : Node) (now : List ℕ) : Type 0 where
+  pub byte : getD s a 0 ≡ 40
+  pub less : depth < 32
+  pub part : Sequence w s (a + 1) (depth + 1) rows (Read n) now
+
+pub inner : (w : ℕ) (s : List ℕ) (a depth : ℕ) (rows : List ℕ) (n : Node) (now : List ℕ) (r : Part) → getD s a 0 ≡ 40 → depth < 32
+    → Sequence w s (a + 1) (depth + 1) rows r now → r ≡ Read n → Inner w s a depth rows n now
+inner w s a depth rows n now r byte less h q = record { byte = byte; less = less; part = subst (λ z. Sequence w s (a + 1) (depth + 1) rows z now) q h }
+
+module _ {w : ℕ} {s : List ℕ} {a depth : ℕ} {rows : List ℕ} {n : Node} {now : List ℕ} (i : Inner w s a depth rows n now) where
+  enters : (d : ℕ) (os : List Level) (g f : Front) → d + (depth + 1) ≡ 32 → Comes s a (state (suc d) os g f due) (n .end) (state d (level g f ∷ os) none none (done (i .part .0)))
+  enters d os g f p = opened w s a depth rows (i .byte) d os g f ∙ i .part .5 d (level g f ∷ os) none none p
+
+  pub inner-shut : getD s (n .end) 0 ≡ 41 → Primary w s a depth rows (Read (record { kind = n .kind; set = n .set; extra = n .extra; end = n .end + 1 })) now
+  inner-shut b =
+      let lt = i .part .1 in
+      let q : n .end < length s = byte-inside s (n .end) 41 (omega arith) b in
+      (i .part .0, omega arith, omega arith, tt, i .part .4, λ d. go d)
+    where
+      go : (d : ℕ) (os : List Level) (g f : Front) → d + depth ≡ 32 → Comes s a (state d os g f due) (n .end + 1) (state d os g f (done (i .part .0)))
+      go zero os g f p = absurd (omega arith)
+      go (suc d) os g f p =
+          enters d os g f (omega arith)
+          ∙ takes s (n .end) 41 (state d (level g f ∷ os) none none (done (i .part .0))) (state (suc d) os g f (done (i .part .0))) (omega arith) b refl
+
+  pub inner-left : ((getD s (n .end) 0 ≡ 41) → ⊥) → Primary w s a depth rows (Bad (n .end)) now
+  inner-left b = λ d. go d
+    where
+      go : (d : ℕ) (os : List Level) (g f : Front) → d + depth ≡ 32 → Refuses s a (state d os g f due) (n .end)
+      go zero os g f p = absurd (omega arith)
+      go (suc d) os g f p =
+          enters d os g f (omega arith)
+          ∙ stuck s (n .end) (state d (level g f ∷ os) none none (done (i .part .0)))
+          (goes-none d (level g f ∷ os) none none (i .part .0) (getD s (n .end) 0) (sign (getD s (n .end) 0)) (sign-is (getD s (n .end) 0)) (i .part .3) b) refl
 
 -- ---- the whole text
 closes-none : (d : ℕ) (x : Expr) (b : ℕ) (c : Sign) → Is c b → NoMark b → goes d [] none none x c ≡ none
@@ -76,15 +100,15 @@ closes-none d x b opener i m = refl
 closes-none d x b closer i m = refl
 closes-none d x b other i m = refl
 
-module _ (s rows : List ℕ) (r : Part) (now : List ℕ) (h : Sequence s 0 0 rows r now) where
-  pub whole-bad : (p : ℕ) → r ≡ Bad p → Parsed s rows (Bad p) rows
-  whole-bad p q = ((subst (λ z. Sequence s 0 0 rows z now) q h) 32 [] none none refl, refl)
+module _ (w : ℕ) (s rows : List ℕ) (r : Part) (now : List ℕ) (h : Sequence w s 0 0 rows r now) where
+  pub whole-bad : (p : ℕ) → r ≡ Bad p → Parsed w s rows (Bad p) rows
+  whole-bad p q = ((subst (λ z. Sequence w s 0 0 rows z now) q h) 32 [] none none refl, refl)
 
   module _ (n : Node) (q : r ≡ Read n) where
-    outer : Sequence s 0 0 rows (Read n) now
-    outer = subst (λ z. Sequence s 0 0 rows z now) q h
+    outer : Sequence w s 0 0 rows (Read n) now
+    outer = subst (λ z. Sequence w s 0 0 rows z now) q h
 
-    pub whole-left : n .end < length s → Parsed s rows (Bad (n .end)) rows
+    pub whole-left : n .end < length s → Parsed w s rows (Bad (n .end)) rows
     whole-left lt = (
       outer .5 32 [] none none refl
           ∙ run-at s (n .end) (state 32 [] none none (done (outer .0))) lt
@@ -92,6 +116,6 @@ module _ (s rows : List ℕ) (r : Part) (now : List ℕ) (h : Sequence s 0 0 row
       refl,
     )
 
-    pub whole-done : length s ≤ n .end → Parsed s rows (Read n) now
+    pub whole-done : length s ≤ n .end → Parsed w s rows (Read n) now
     whole-done le =
         (outer .0, outer .5 32 [] none none refl ∙ run-end s (n .end) (state 32 [] none none (done (outer .0))) le, omega (arith, outer .2), outer .4)

@@ -1,6 +1,6 @@
 -- What nodes and rows tell of what is read: one member more, and the end of a join.
 use mathlib.Core.Path.{_≡_, refl, sym, ap, ap₂, _∙_, subst}
-use mathlib.Core.Bool.{Bool, true, false, _&&_, _||_, cond, or-assoc, or-false, true≢false}
+use mathlib.Core.Bool.{Bool, true, false, _&&_, _||_, cond, and-false, and-comm, or-assoc, or-false, true≢false}
 use mathlib.Core.List.{List}
 use mathlib.Core.Option.{none, some}
 use Prim.Native.Nat.{ℕ, zero, suc, _+_, _<_, _≤_}
@@ -10,10 +10,10 @@ use borrow.Author.Tests.{le-leb}
 use Rattle.logic.proofs.Bools.{or-false as neither}
 use Rattle.sets.specs.Sets.{has, union, meet}
 use Rattle.sets.proofs.Laws.{has-union, has-meet, has-empty, none-empty}
-use Rattle.graph.specs.Graph.{behind}
+use Rattle.graph.specs.Graph.{behind, Words}
 use Rattle.expression.specs.Expr.{Expr, join, Members, one, more, times, timesM, stands, standsM, before, beforeM}
 use Rattle.grammar.specs.Reader.{Front, close, push}
-use Rattle.rows.specs.Rows.{Words, Linked}
+use Rattle.rows.specs.Rows.{Linked}
 use Rattle.numbers.specs.declared.Kind.{Kind}
 use Rattle.numbers.specs.declared.Kind.the-variants.{Group as Groups, Sequence as Sequences}
 use Rattle.numbers.specs.Reads.{kindOf, bit, Told}
@@ -44,14 +44,7 @@ bool-first false false false true x y m = refl
 bool-first false false false false x y m = refl
 
 nothing : (k a : Bool) → (a || (k && false)) ≡ a
-nothing true a = or-false a
-nothing false a = or-false a
-
-and-swap : (p q : Bool) → (p && q) ≡ (q && p)
-and-swap true true = refl
-and-swap true false = refl
-and-swap false true = refl
-and-swap false false = refl
+nothing k a = ap (λ b. a || b) (and-false k) ∙ or-false a
 
 -- ---- sets
 stands-or : (a b : ℕ) → leb 1 (a + b) ≡ (leb 1 a || leb 1 b)
@@ -62,14 +55,14 @@ union-none : (a b : ℕ) → union a b ≡ 0 → (a ≡ 0) × (b ≡ 0)
 union-none a b z = (none-empty a (λ i. parts i .0), none-empty b (λ i. parts i .1))
   where
     parts : (i : ℕ) → (has a i ≡ false) × (has b i ≡ false)
-    parts i = neither (has a i) (has b i) (sym (has-union a b i) ∙ ap (λ w. has w i) z ∙ has-empty i)
+    parts i = neither (has a i) (has b i) (sym (has-union a b i) ∙ ap (λ z. has z i) z ∙ has-empty i)
 
 -- two sets that have nothing in common
 bit-union : (a b : ℕ) → meet a b ≡ 0 → (v : ℕ) → bit a v + bit b v ≤ bit (union a b) v
 bit-union a b z zero = omega arith
 bit-union a b z (suc i) =
     subst (λ c. cond {A = ℕ} (has a i) 1 0 + cond (has b i) 1 0 ≤ cond c 1 0) (sym (has-union a b i))
-    (go (has a i) (has b i) (sym (has-meet a b i) ∙ ap (λ w. has w i) z ∙ has-empty i))
+    (go (has a i) (has b i) (sym (has-meet a b i) ∙ ap (λ z. has z i) z ∙ has-empty i))
   where
     go : (p q : Bool) → (p && q) ≡ false → cond {A = ℕ} p 1 0 + cond q 1 0 ≤ cond (p || q) 1 0
     go true true e = absurd (true≢false e)
@@ -87,16 +80,16 @@ kind-join true x ms = refl
 kind-join false x ms = refl
 
 -- x is what the members ms make of a front of which the set and the rows tell
-pub record Tells (k : Bool) (x : Expr) (ms : Members) (rows₀ : List ℕ) (set extra : ℕ) (rows : List ℕ) : Type 0 where
+pub record Tells (w : ℕ) (k : Bool) (x : Expr) (ms : Members) (rows₀ : List ℕ) (set extra : ℕ) (rows : List ℕ) : Type 0 where
   pub kinds : kindOf x ≡ joinKind k
-  pub stand : (i : ℕ) → i < 32 → stands x (suc i) ≡ (has set i || standsM ms (suc i))
+  pub stand : (i : ℕ) → i < w → stands x (suc i) ≡ (has set i || standsM ms (suc i))
   pub once : extra ≡ 0 → (v : ℕ) → times x v ≤ bit set v + timesM ms v
-  pub order : (i j : ℕ) → i < 32 → j < 32
+  pub order : (i j : ℕ) → i < w → j < w
       → (behind rows₀ (suc i) (suc j) || before x (suc i) (suc j)) ≡ (behind rows (suc i) (suc j) || (beforeM k ms (suc i) (suc j) || (k && (has set i && standsM ms (suc j)))))
 
-abbrev pub FrontTold : Bool → Front → List ℕ → ℕ → ℕ → List ℕ → Type 0
-FrontTold k none rows₀ set extra rows = (set ≡ 0) × (rows ≡ rows₀)
-FrontTold k (some h) rows₀ set extra rows = (ms : Members) → Tells k (h ms) ms rows₀ set extra rows
+abbrev pub FrontTold : ℕ → Bool → Front → List ℕ → ℕ → ℕ → List ℕ → Type 0
+FrontTold w k none rows₀ set extra rows = (set ≡ 0) × (rows ≡ rows₀)
+FrontTold w k (some h) rows₀ set extra rows = (ms : Members) → Tells w k (h ms) ms rows₀ set extra rows
 
 -- a word that is 0 only if both parts' are and the parts have no number in common
 abbrev pub clash : ℕ → ℕ → ℕ → ℕ → ℕ
@@ -109,27 +102,27 @@ clash-none extra new set part z =
     (q .0, q .1, p .1)
 
 -- in a sequence the members before are before the new one
-pub record Links (k : Bool) (set part : ℕ) (rows now : List ℕ) : Type 0 where
-  pub words : Words now
-  pub order : (i j : ℕ) → i < 32 → j < 32 → behind now (suc i) (suc j) ≡ (behind rows (suc i) (suc j) || (k && (has set i && has part j)))
+pub record Links (w : ℕ) (k : Bool) (set part : ℕ) (rows now : List ℕ) : Type 0 where
+  pub words : Words w now
+  pub order : (i j : ℕ) → i < w → j < w → behind now (suc i) (suc j) ≡ (behind rows (suc i) (suc j) || (k && (has set i && has part j)))
 
-pub links-sequence : (set part : ℕ) (rows now : List ℕ) → Linked part set rows now → Links true set part rows now
-links-sequence set part rows now h =
-    record { words = h .words; order = λ i j l l′. h .order j i l′ ∙ ap (λ b. behind rows (suc i) (suc j) || b) (and-swap (has part j) (has set i)) }
+pub links-sequence : (w set part : ℕ) (rows now : List ℕ) → Linked w part set rows now → Links w true set part rows now
+links-sequence w set part rows now h =
+    record { words = h .words; order = λ i j l l′. h .order j i l′ ∙ ap (λ b. behind rows (suc i) (suc j) || b) (and-comm (has part j) (has set i)) }
 
-pub links-group : (set part : ℕ) (rows : List ℕ) → Words rows → Links false set part rows rows
-links-group set part rows w = record { words = w; order = λ i j l l′. sym (or-false (behind rows (suc i) (suc j))) }
+pub links-group : (w set part : ℕ) (rows : List ℕ) → Words w rows → Links w false set part rows rows
+links-group w set part rows ws = record { words = ws; order = λ i j l l′. sym (or-false (behind rows (suc i) (suc j))) }
 
-module _ (k : Bool) (rows₀ : List ℕ) (set extra : ℕ) (rows : List ℕ) (x : Expr) (kind : Kind) (part new : ℕ) (mid now : List ℕ) where
-  set-is : Told x rows kind part new mid → (i : ℕ) → i < 32 → has (union set part) i ≡ (has set i || stands x (suc i))
+module _ (w : ℕ) (k : Bool) (rows₀ : List ℕ) (set extra : ℕ) (rows : List ℕ) (x : Expr) (kind : Kind) (part new : ℕ) (mid now : List ℕ) where
+  set-is : Told w x rows kind part new mid → (i : ℕ) → i < w → has (union set part) i ≡ (has set i || stands x (suc i))
   set-is t i h = has-union set part i ∙ ap (λ z. has set i || z) (t .stand i h)
 
-  now-is : Told x rows kind part new mid → Links k set part mid now → (i j : ℕ) → i < 32 → j < 32
+  now-is : Told w x rows kind part new mid → Links w k set part mid now → (i j : ℕ) → i < w → j < w
       → behind now (suc i) (suc j) ≡ (behind rows (suc i) (suc j) || before x (suc i) (suc j) || (k && (has set i && stands x (suc j))))
   now-is t l i j h h′ = l .order i j h h′ ∙ ap₂ (λ a b. a || (k && (has set i && b))) (t .order i j h h′) (t .stand j h′)
 
   -- a first member alone: nothing is put before it
-  pub told-alone : FrontTold k none rows₀ set extra rows → Told x rows kind part new mid → Links k set part mid now → Told x rows₀ kind part new now
+  pub told-alone : FrontTold w k none rows₀ set extra rows → Told w x rows kind part new mid → Links w k set part mid now → Told w x rows₀ kind part new now
   told-alone h t l =
       let blank : (i : ℕ) → has set i ≡ false = λ i. ap (λ z. has z i) (h .0) ∙ has-empty i in
       record {
@@ -142,11 +135,11 @@ module _ (k : Bool) (rows₀ : List ℕ) (set extra : ℕ) (rows : List ℕ) (x 
         words = l .words;
       }
 
-  pub told-push : (f : Front) → FrontTold k f rows₀ set extra rows → Told x rows kind part new mid → Links k set part mid now
-      → FrontTold k (some (push k f x)) rows₀ (union set part) (clash extra new set part) now
+  pub told-push : (f : Front) → FrontTold w k f rows₀ set extra rows → Told w x rows kind part new mid → Links w k set part mid now
+      → FrontTold w k (some (push k f x)) rows₀ (union set part) (clash extra new set part) now
   told-push none h t l = λ ms.
       let empty : (i : ℕ) → has set i ≡ false = λ i. ap (λ z. has z i) (h .0) ∙ has-empty i in
-      let set-now : (i : ℕ) → i < 32 → has (union set part) i ≡ stands x (suc i) = λ i lt. set-is t i lt ∙ ap (λ z. z || stands x (suc i)) (empty i) in
+      let set-now : (i : ℕ) → i < w → has (union set part) i ≡ stands x (suc i) = λ i lt. set-is t i lt ∙ ap (λ z. z || stands x (suc i)) (empty i) in
       record {
         kinds = kind-join k x ms;
         stand = λ i lt. stands-or (times x (suc i)) (timesM ms (suc i)) ∙ ap (λ z. z || standsM ms (suc i)) (sym (set-now i lt));
@@ -175,8 +168,8 @@ module _ (k : Bool) (rows₀ : List ℕ) (set extra : ℕ) (rows : List ℕ) (x 
             ∙ ap₂ (λ a b. a || (beforeM k ms (suc i) (suc j) || (k && (b && standsM ms (suc j))))) (sym (now-is t l i j lt lt′)) (sym (set-is t i lt));
       }
 
-  pub told-close : (f : Members → Expr) → FrontTold k (some f) rows₀ set extra rows → Told x rows kind part new mid → Links k set part mid now
-      → Told (close (some f) x) rows₀ (joinKind k) (union set part) (clash extra new set part) now
+  pub told-close : (f : Members → Expr) → FrontTold w k (some f) rows₀ set extra rows → Told w x rows kind part new mid → Links w k set part mid now
+      → Told w (close (some f) x) rows₀ (joinKind k) (union set part) (clash extra new set part) now
   told-close f h t l =
       let r = h (one x) in
       record {

@@ -21,13 +21,13 @@ NoAnd b = (b ≡ 38) → ⊥
 abbrev pub NoMark : ℕ → Type 0
 NoMark b = ((b ≡ 38) → ⊥) × ((b ≡ 44) → ⊥)
 
-abbrev pub Group : List ℕ → ℕ → ℕ → List ℕ → Part → List ℕ → Type 0
-Group = Answer (λ d os g f x. state d os g none x) NoAnd
+abbrev pub Group : ℕ → List ℕ → ℕ → ℕ → List ℕ → Part → List ℕ → Type 0
+Group w = Answer w (λ d os g f x. state d os g none x) NoAnd
 
-abbrev pub Sequence : List ℕ → ℕ → ℕ → List ℕ → Part → List ℕ → Type 0
-Sequence = Answer (λ d os g f x. state d os none none x) NoMark
+abbrev pub Sequence : ℕ → List ℕ → ℕ → ℕ → List ℕ → Part → List ℕ → Type 0
+Sequence w = Answer w (λ d os g f x. state d os none none x) NoMark
 
 -- The whole text: the grammar's reader refuses it, and the rows are as before; or it accepts it with an expression of which the node and the rows tell.
-abbrev pub Parsed : List ℕ → List ℕ → Part → List ℕ → Type 0
-Parsed s rows (Bad p) now = (read 32 s ≡ refused p) × (now ≡ rows)
-Parsed s rows (Read node) now = (x : Expr) × (read 32 s ≡ accepted x) × (node .end ≡ length s) × Told x rows (node .kind) (node .set) (node .extra) now
+abbrev pub Parsed : ℕ → List ℕ → List ℕ → Part → List ℕ → Type 0
+Parsed w s rows (Bad p) now = (read 32 s ≡ refused p) × (now ≡ rows)
+Parsed w s rows (Read node) now = (x : Expr) × (read 32 s ≡ accepted x) × (node .end ≡ length s) × Told w x rows (node .kind) (node .set) (node .extra) now

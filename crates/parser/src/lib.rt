@@ -1,19 +1,18 @@
 // Readers of an expression's text: sequence, group and primary call each other in a cycle, bounded by the bytes left and the open parentheses.
 // Members are read by loops; the rows of the order, turned round, are lent down the cycle, so that a member is put behind all before it by its own rows alone.
 // Each reader answers with one node.
+use graph::Graph;
 use numbers::Kind;
 use numbers::Node;
 use numbers::Part;
-use numbers::Wrapped;
-ghost use mathlib.Core.Path.{_≡_};
-ghost use Rattle.rows.specs.Rows.{Words};
+ghost use Rattle.graph.specs.Graph.{Words};
 ghost use Rattle.numbers.specs.Reads.{Primary};
 ghost use Rattle.parser.specs.Reads.{Sequence, Group, Parsed};
 
 // Groups joined by `,`: each is before all that come after it.
-fn sequence(text: &[u8], start: usize, depth: usize, rows: &mut [u32; 32]) -> Part
-    requires { ⌜ Words (now rows) ⌝ }
-    ensures { λ r. ⌜ Sequence (now (text .entry)) start depth (now (rows .entry)) r (now (rows .exit)) ⌝ }
+fn sequence(text: &[u8], start: usize, depth: usize, rows: &mut [u32; Graph::MAX]) -> Part
+    requires { ⌜ Words 32 (now rows) ⌝ }
+    ensures { λ r. ⌜ Sequence 32 (now (text .entry)) start depth (now (rows .entry)) r (now (rows .exit)) ⌝ }
 {
     let mut at = start;
     let mut set: u32 = 0;
@@ -49,9 +48,9 @@ fn sequence(text: &[u8], start: usize, depth: usize, rows: &mut [u32; 32]) -> Pa
 }
 
 // Primaries joined by `&`: no order among them.
-fn group(text: &[u8], start: usize, depth: usize, rows: &mut [u32; 32]) -> Part
-    requires { ⌜ Words (now rows) ⌝ }
-    ensures { λ r. ⌜ Group (now (text .entry)) start depth (now (rows .entry)) r (now (rows .exit)) ⌝ }
+fn group(text: &[u8], start: usize, depth: usize, rows: &mut [u32; Graph::MAX]) -> Part
+    requires { ⌜ Words 32 (now rows) ⌝ }
+    ensures { λ r. ⌜ Group 32 (now (text .entry)) start depth (now (rows .entry)) r (now (rows .exit)) ⌝ }
 {
     let mut at = start;
     let mut set: u32 = 0;
@@ -86,18 +85,13 @@ fn group(text: &[u8], start: usize, depth: usize, rows: &mut [u32; 32]) -> Part
 }
 
 // A number, or a sequence in parentheses.
-fn primary(text: &[u8], at: usize, depth: usize, rows: &mut [u32; 32]) -> Part
-    requires { ⌜ Words (now rows) ⌝ }
-    ensures { λ r. ⌜ Primary (now (text .entry)) at depth (now (rows .entry)) r (now (rows .exit)) ⌝ }
+fn primary(text: &[u8], at: usize, depth: usize, rows: &mut [u32; Graph::MAX]) -> Part
+    requires { ⌜ Words 32 (now rows) ⌝ }
+    ensures { λ r. ⌜ Primary 32 (now (text .entry)) at depth (now (rows .entry)) r (now (rows .exit)) ⌝ }
 {
     if numbers::peek(text, at) == 40 {
         if numbers::full(depth) {
             return Part::Bad(at);
-        }
-        let bare = numbers::spare(text, at, depth);
-        match bare {
-            Wrapped::Number(node) => return Part::Read(node),
-            Wrapped::Other => {}
         }
         let part = sequence(text, at + 1, depth + 1, rows);
         match part {
@@ -126,9 +120,9 @@ fn primary(text: &[u8], at: usize, depth: usize, rows: &mut [u32; 32]) -> Part
 }
 
 // The whole text. A refusal leaves the rows as they were.
-pub fn parse(text: &[u8], rows: &mut [u32; 32]) -> Part
-    requires { ⌜ Words (now rows) ⌝ }
-    ensures { λ r. ⌜ Parsed (now (text .entry)) (now (rows .entry)) r (now (rows .exit)) ⌝ }
+pub fn parse(text: &[u8], rows: &mut [u32; Graph::MAX]) -> Part
+    requires { ⌜ Words 32 (now rows) ⌝ }
+    ensures { λ r. ⌜ Parsed 32 (now (text .entry)) (now (rows .entry)) r (now (rows .exit)) ⌝ }
 {
     let kept = *rows;
     let part = sequence(text, 0, 0, rows);

@@ -10,7 +10,7 @@ use Rattle.expression.specs.Expr.{Expr, NoN}
 use Rattle.expression.specs.Arrange.{Strict}
 use Rattle.expression.proofs.NoN.{no-n}
 use Rattle.logic.proofs.Bools.{and-true}
-use Rattle.published.specs.Sets.{_∈_, every}
+use Rattle.published.specs.Sets.{_isIn_, every}
 use Rattle.published.specs.Figure1.{Q, S, F, lemma1, lemma3, udgDeep, udg-compilable-WLOP}
 use Rattle.published.specs.Linear.{group, inwards, after, built, linearDeep, linear}
 use Rattle.published.proofs.Lists.{every-in, in-every, every-same, Pair, pair-those}
@@ -21,7 +21,7 @@ use Rattle.published.proofs.Linear.{Compiled, built-compiled}
 
 module _ (R : ℕ → ℕ → Bool) where
   -- ---- as many calls as there are vertices are enough: more change nothing
-  udg-steady : (k j : ℕ) (W : List ℕ) → Strict R (λ i. i ∈ W) → length W ≤ k → length W ≤ j → udgDeep R k W ≡ udgDeep R j W
+  udg-steady : (k j : ℕ) (W : List ℕ) → Strict R (λ i. i isIn W) → length W ≤ k → length W ≤ j → udgDeep R k W ≡ udgDeep R j W
   udg-steady zero zero W o h g = refl
   udg-steady zero (suc j) [] o h g = refl
   udg-steady zero (suc j) (x ∷ W) o h g = absurd (omega arith)
@@ -32,11 +32,11 @@ module _ (R : ℕ → ℕ → Bool) where
       (every-same (λ s. udgDeep R k (F R W s)) (λ s. udgDeep R j (F R W s)) (S R W)
       (λ s m. udg-steady k j (F R W s) (f-strict R W o s) (omega (arith, f-fewer R W o s m)) (omega (arith, f-fewer R W o s m))))
 
-  built-same : (f g : List ℕ → Expr) (W : List ℕ) (l : List (List ℕ)) → ((s : List ℕ) → s ∈ l → f (F R W s) ≡ g (F R W s)) → built R f W l ≡ built R g W l
+  built-same : (f g : List ℕ → Expr) (W : List ℕ) (l : List (List ℕ)) → ((s : List ℕ) → s isIn l → f (F R W s) ≡ g (F R W s)) → built R f W l ≡ built R g W l
   built-same f g W [] h = refl
   built-same f g W (s ∷ l) h = ap₂ (after s) (h s (inl refl)) (built-same f g W l (λ t m. h t (inr m)))
 
-  linear-steady : (k j : ℕ) (W : List ℕ) → Strict R (λ i. i ∈ W) → length W ≤ k → length W ≤ j → linearDeep R k W ≡ linearDeep R j W
+  linear-steady : (k j : ℕ) (W : List ℕ) → Strict R (λ i. i isIn W) → length W ≤ k → length W ≤ j → linearDeep R k W ≡ linearDeep R j W
   linear-steady zero zero W o h g = refl
   linear-steady zero (suc j) [] o h g = refl
   linear-steady zero (suc j) (x ∷ W) o h g = absurd (omega arith)
@@ -50,7 +50,7 @@ module _ (R : ℕ → ℕ → Bool) where
       linear-steady k j (F R W s) (f-strict R W o s) (omega (arith, f-fewer R W o s m)) (omega (arith, f-fewer R W o s m))))
 
   -- Figure 1 calls itself on each F(S_i),
-  pub figure-1-unfolds : (W : List ℕ) → Strict R (λ i. i ∈ W)
+  pub figure-1-unfolds : (W : List ℕ) → Strict R (λ i. i isIn W)
       → udg-compilable-WLOP R W ≡ (lemma1 R W && lemma3 R W && every (λ s. udg-compilable-WLOP R (F R W s)) (S R W))
   figure-1-unfolds [] o = refl
   figure-1-unfolds (x ∷ W) o =
@@ -60,7 +60,7 @@ module _ (R : ℕ → ℕ → Bool) where
       udg-steady (length W) (length (F R (x ∷ W) s)) (F R (x ∷ W) s) (f-strict R (x ∷ W) o s) (omega (arith, f-fewer R (x ∷ W) o s m)) (omega arith)))
 
   -- and section 3.2 too.
-  pub linear-unfolds : (W : List ℕ) → Strict R (λ i. i ∈ W) → linear R W ≡ group (built R (linear R) W (inwards (S R W)))
+  pub linear-unfolds : (W : List ℕ) → Strict R (λ i. i isIn W) → linear R W ≡ group (built R (linear R) W (inwards (S R W)))
   linear-unfolds [] o = refl
   linear-unfolds (x ∷ W) o =
       ap group
@@ -70,7 +70,7 @@ module _ (R : ℕ → ℕ → Bool) where
       linear-steady (length W) (length (F R (x ∷ W) s)) (F R (x ∷ W) s) (f-strict R (x ∷ W) o s) (omega (arith, f-fewer R (x ∷ W) o s m)) (omega arith)))
 
   -- ---- where there is no N the answer is true
-  no-n-deep : (k : ℕ) (W : List ℕ) → Strict R (λ i. i ∈ W) → NoN R (λ i. i ∈ W) → udgDeep R k W ≡ true
+  no-n-deep : (k : ℕ) (W : List ℕ) → Strict R (λ i. i isIn W) → NoN R (λ i. i isIn W) → udgDeep R k W ≡ true
   no-n-deep zero W o free = refl
   no-n-deep (suc k) W o free =
       ap₂ _&&_ (ap₂ _&&_ (lemma1-holds R W o free) (lemma3-holds R W o free))
@@ -80,7 +80,7 @@ module _ (R : ℕ → ℕ → Bool) where
       (λ a b c d ha hb hc hd. free a b c d (f-vertex R W s a ha) (f-vertex R W s b hb) (f-vertex R W s c hc) (f-vertex R W s d hd))))
 
   -- ---- where the answer is true the linear expression has the order
-  deep-compiled : (k : ℕ) (W : List ℕ) → Strict R (λ i. i ∈ W) → Pair _≢_ W → length W ≤ k → (x : ℕ) → x ∈ W → udgDeep R k W ≡ true
+  deep-compiled : (k : ℕ) (W : List ℕ) → Strict R (λ i. i isIn W) → Pair _≢_ W → length W ≤ k → (x : ℕ) → x isIn W → udgDeep R k W ≡ true
       → Compiled R W (linearDeep R k W)
   deep-compiled zero [] o d h x m t = absurd m
   deep-compiled zero (y ∷ W) o d h x m t = absurd (omega arith)
@@ -94,14 +94,14 @@ module _ (R : ℕ → ℕ → Bool) where
       (every-in (λ s. udgDeep R k (F R W s)) (S R W) (u .1) s n))
       x m
 
-  pub linear-compiled : (W : List ℕ) → Strict R (λ i. i ∈ W) → Pair _≢_ W → (x : ℕ) → x ∈ W → udg-compilable-WLOP R W ≡ true → Compiled R W (linear R W)
+  pub linear-compiled : (W : List ℕ) → Strict R (λ i. i isIn W) → Pair _≢_ W → (x : ℕ) → x isIn W → udg-compilable-WLOP R W ≡ true → Compiled R W (linear R W)
   linear-compiled W o d x m t = deep-compiled (length W) W o d (omega arith) x m t
 
   -- Figure 1 answers true exactly if there is no N among the vertices.
-  true-no-n : (W : List ℕ) → Strict R (λ i. i ∈ W) → Pair _≢_ W → udg-compilable-WLOP R W ≡ true → NoN R (λ i. i ∈ W)
+  true-no-n : (W : List ℕ) → Strict R (λ i. i isIn W) → Pair _≢_ W → udg-compilable-WLOP R W ≡ true → NoN R (λ i. i isIn W)
   true-no-n W o d t a b c e ha hb hc he n =
       let f = linear-compiled W o d a ha t in
       no-n R n (linear R W) (f .fits) (f .covers a .1 ha) (f .covers b .1 hb) (f .covers c .1 hc) (f .covers e .1 he)
 
-  pub udg-no-n : (W : List ℕ) → Strict R (λ i. i ∈ W) → Pair _≢_ W → (udg-compilable-WLOP R W ≡ true) ↔ NoN R (λ i. i ∈ W)
+  pub udg-no-n : (W : List ℕ) → Strict R (λ i. i isIn W) → Pair _≢_ W → (udg-compilable-WLOP R W ≡ true) ↔ NoN R (λ i. i isIn W)
   udg-no-n W o d = (true-no-n W o d, no-n-deep (length W) W o)

@@ -8,10 +8,10 @@ use lib.Dec.{eqb}
 
 module _ {A : Type 0} where
   -- x stands in the list.
-  infix 4 _∈_
-  abbrev pub _∈_ : A → List A → Type 0
-  x ∈ [] = ⊥
-  x ∈ (y ∷ l) = (x ≡ y) ⊎ (x ∈ l)
+  infix 4 _isIn_
+  abbrev pub _isIn_ : A → List A → Type 0
+  x isIn [] = ⊥
+  x isIn (y ∷ l) = (x ≡ y) ⊎ (x isIn l)
 
   -- All of the list pass the test p; one does; those that do.
   abbrev pub every : (A → Bool) → List A → Bool
@@ -28,10 +28,10 @@ module _ {A : Type 0} where
 
 -- Two sets of vertices do not intersect; the one is a subset of the other.
 abbrev pub Disjoint : List ℕ → List ℕ → Type 0
-Disjoint a b = (x : ℕ) → x ∈ a → x ∈ b → ⊥
+Disjoint a b = (x : ℕ) → x isIn a → x isIn b → ⊥
 
 abbrev pub Subset : List ℕ → List ℕ → Type 0
-Subset a b = (x : ℕ) → x ∈ a → x ∈ b
+Subset a b = (x : ℕ) → x isIn a → x isIn b
 
 -- Tests of sets of vertices: x is in a; a is a subset of b; a subset and not all of b; they do not intersect; they are the same.
 abbrev pub among : ℕ → List ℕ → Bool

@@ -14,7 +14,7 @@ unfoldable refused : Reading → Type 0
 refused Fine = ⊥
 refused (Refused r) = Unit
 
-not-fine : (r : Refusal) → Refused r ≡ Fine → ⊥
+pub not-fine : (r : Refusal) → Refused r ≡ Fine → ⊥
 unfolding refused
 not-fine r e = subst refused e tt
 

@@ -8,11 +8,18 @@ use lib.ListN.{length}
 use lib.Pow.{pow-mono}
 use Rattle.sets.proofs.Laws.{below-of, member-below}
 use Rattle.sets.proofs.Builder.{members-lt}
-use Rattle.fields.specs.Fields.{byte, goalCount, varCount, pairCount, headSet, groundSet, goalSet, textPlace, textLength, textLengthAt, placeAfter, pairAt}
+use Rattle.fields.specs.Fields.{byte, goalCount, varCount, pairCount, headSet, groundSet, goalSet, textPlace, textLength, placeAfter, pairAt}
 use Rattle.reading.specs.declared.Reading.the-variants.{Fine}
 use Rattle.reading.specs.Reading.{reading}
-use Rattle.record.specs.WellFormed.{WellFormed}
+use Rattle.record.specs.WellFormed.{WellFormedGoal, WellFormed}
+use Rattle.record.specs.Limits.{Bytes, longest}
 use Rattle.record.proofs.WellFormed.{fine-well-formed}
+
+-- each goal has nine fixed bytes and a text of at most 40
+pub places-limit : (b : List ℕ) (g : ℕ) → ((k : ℕ) → k < g → WellFormedGoal b (placeAfter b k)) → placeAfter b g ≤ 24 + 49 * g
+unfolding placeAfter
+places-limit b zero w = omega arith
+places-limit b (suc g) w = let k = w g (omega arith) .length-to in let r = places-limit b g (λ k l. w k (omega arith)) in omega arith
 
 module _ (b : List ℕ) (w : WellFormed b) where
   -- v ≤ 64, so that a set of variables below v is a mask of 64 bits
@@ -65,19 +72,14 @@ module _ (b : List ℕ) (w : WellFormed b) where
   -- ---- the length
 
   pub place-limit : (g : ℕ) → g ≤ goalCount b → placeAfter b g ≤ 24 + 49 * g
-  unfolding placeAfter
-  place-limit zero h = omega arith
-  place-limit (suc g) h =
-      let e : suc g - 1 ≡ g = omega arith in
-      let k : textLengthAt b (placeAfter b (suc g - 1)) ≤ 40 = w .goals (suc g) (omega arith) h .length-to in
-      let k₂ : textLengthAt b (placeAfter b g) ≤ 40 = subst (λ (x : ℕ). textLengthAt b (placeAfter b x) ≤ 40) e k in
-      let r = place-limit g (omega arith) in
-      omega (arith, k₂, r)
+  place-limit g h =
+      places-limit b g (λ k l.
+      let e : suc k - 1 ≡ k = omega arith in
+      subst (λ (x : ℕ). WellFormedGoal b (placeAfter b x)) e (w .goals (suc k) (omega arith) (omega arith)))
 
-  -- 24 bytes, 32 goals of 49 bytes and 255 pairs
-  pub length-limit : pairCount b < 256 → length b ≤ 2102
-  length-limit p = let l = place-limit (goalCount b) (omega arith) in omega (arith, l, w .goals-to, w .nothing-left, p)
+  pub length-limit : Bytes b → length b ≤ longest
+  length-limit p = omega (arith, place-limit (goalCount b) (omega arith), w .goals-to, w .nothing-left, p 7)
 
 -- 01: "every record that fills it is already refused": a longer input is not read to the end as fine
-pub long-refused : (b : List ℕ) → pairCount b < 256 → 2102 < length b → reading b ≡ Fine → ⊥
-long-refused b p l e = let h = length-limit b (fine-well-formed b e) p in omega (arith, h, l)
+pub long-refused : (b : List ℕ) → Bytes b → longest < length b → reading b ≡ Fine → ⊥
+long-refused b p l e = let h = length-limit b (fine-well-formed b e) p in omega arith

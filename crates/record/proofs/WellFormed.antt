@@ -60,12 +60,12 @@ module _ (b : List ℕ) where
         ∙ must-so _ _ _ _ (le-leb _ _ (w .text-whole)) ∙ must-so _ _ _ _ (between-in 1 textLimit (textLengthAt b at) (w .length-from) (w .length-to))
         ∙ must-so _ _ _ _ (bits-within (varCount b) (set b at) (w .set-below)) ∙ must-so _ _ _ _ (le-leb _ _ (w .fixed-whole))
 
-  goals-fine : (n : ℕ) (s : Reading) → goals b n s ≡ Fine → s ≡ Fine
+  pub goals-fine : (n : ℕ) (s : Reading) → goals b n s ≡ Fine → s ≡ Fine
   unfolding goals
   goals-fine zero s e = e
   goals-fine (suc n) s e = goals-fine n s (goal-fine (placeAfter b n) _ e)
 
-  goals-out : (n : ℕ) (s : Reading) → goals b n s ≡ Fine → (g : ℕ) → g < n → WellFormedGoal b (placeAfter b g)
+  pub goals-out : (n : ℕ) (s : Reading) → goals b n s ≡ Fine → (g : ℕ) → g < n → WellFormedGoal b (placeAfter b g)
   unfolding goals
   goals-out zero s e g h = absurd (not-suc-le-zero h)
   goals-out (suc n) s e g h =
@@ -119,7 +119,7 @@ module _ (b : List ℕ) where
       (and-i (ltb low high) (ltb high (varCount b)) (lt-ltb low high (w .lower-first)) (lt-ltb high (varCount b) (w .pair-below))) (ascends-in k (w .ascending)))
       ∙ must-so _ _ _ _ (le-leb _ _ (w .pair-whole))
 
-  pairs-fine : (n : ℕ) (s : Reading) → pairs b n s ≡ Fine → s ≡ Fine
+  pub pairs-fine : (n : ℕ) (s : Reading) → pairs b n s ≡ Fine → s ≡ Fine
   unfolding pairs
   pairs-fine zero s e = e
   pairs-fine (suc n) s e = pairs-fine n s (pair-fine n _ e)

@@ -1,3 +1,2 @@
-pub mod Fields
-pub mod Reading
 pub mod WellFormed
+pub mod Limits

@@ -2,8 +2,7 @@
 use libc::STDIN_FILENO;
 
 fn main() {
-    let mut record = [0u8; 4096];
+    let mut input = [0u8; 4096];
     let mut text = [0u8; 32768];
-    let n = io::read_full(STDIN_FILENO, &mut record);
-    page::print(&record[..n], &mut text);
+    page::run(STDIN_FILENO, &mut input, &mut text);
 }

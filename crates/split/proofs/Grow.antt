@@ -4,7 +4,7 @@ use mathlib.Core.Path.{_≡_, refl, sym, ap, _∙_, subst}
 use mathlib.Core.Bool.{Bool, true, false, not, _&&_, _||_, cond, or-assoc, true≢false, false≢true}
 use mathlib.Core.List.{List}
 use mathlib.Core.Logic.{_⊎_, inl, inr, ⊎-elim}
-use Prim.Native.Nat.{ℕ, zero, suc, _^_, _<_}
+use Prim.Native.Nat.{ℕ, zero, suc, _+_, _-_, _^_, _<_}
 use native.Mathlib.Omega.{arith}
 use lib.Bits.{or-zero-r}
 use lib.Dec.{eqb, ltb}
@@ -37,6 +37,10 @@ without-i a b g h f = goal-without a b g ∙ and-i (hasGoal a g) (not (hasGoal b
 pub clash : {b : Bool} {A : Type 0} → b ≡ true → b ≡ false → A
 clash t f = absurd (true≢false (sym t ∙ f))
 
+-- the set of goal x + 1 alone
+pub alone : (x : ℕ) {m : ℕ} → m ≡ single (x + 1 - 1) → m ≡ single x
+alone x e = let z : x + 1 - 1 ≡ x = omega arith in e ∙ ap single z
+
 -- ---- what hangs together with a goal of a set
 
 -- `fresh` is those of `left` that hang together with a goal of `todo`
@@ -63,35 +67,35 @@ module _ (after prior : List ℕ) (k : Bool) (left : ℕ) where
         all = λ i g u e. let s : i ≡ x = omega (arith, single-goal x (suc i) u) in ap (λ (z : ℕ). hasGoal (hanging after prior k left z) g) (sym s) ∙ e;
       }
 
-  module _ (ll : left < 2 ^ 32) where
-    near-any : (todo : ℕ) → todo < 2 ^ 32 → Near after prior k left todo (hangingAny after prior k left todo)
+  module _ (w : ℕ) (ll : left < 2 ^ w) where
+    near-any : (todo : ℕ) → todo < 2 ^ w → Near after prior k left todo (hangingAny w after prior k left todo)
     unfolding hangingAny
     near-any todo lt = record { from = from; all = all }
       where
-        from : (g : ℕ) → Has (setOf 32 (λ j. someBelow 32 (λ i. has todo i && has (hanging after prior k left i) j))) g
+        from : (g : ℕ) → Has (setOf w (λ j. someBelow w (λ i. has todo i && has (hanging after prior k left i) j))) g
             → (i : ℕ) × Has todo (suc i) × Has (hanging after prior k left i) g
         from zero e = absurd (false≢true e)
         from (suc j) e =
             let f : ℕ → Bool = λ i. has todo i && has (hanging after prior k left i) j in
-            let b = below-out 32 f (and-r (ltb j 32) (someBelow 32 f) (sym (has-setOf 32 (λ j. someBelow 32 (λ i. has todo i && has (hanging after prior k left i) j)) j) ∙ e)) in
+            let b = below-out w f (and-r (ltb j w) (someBelow w f) (sym (has-setOf w (λ j. someBelow w (λ i. has todo i && has (hanging after prior k left i) j)) j) ∙ e)) in
             (b .x, and-l (has todo (b .x)) (has (hanging after prior k left (b .x)) j) (b .so), and-r (has todo (b .x)) (has (hanging after prior k left (b .x)) j) (b .so))
 
         all : (i g : ℕ) → Has todo (suc i) → Has (hanging after prior k left i) g
-            → Has (setOf 32 (λ j. someBelow 32 (λ i. has todo i && has (hanging after prior k left i) j))) g
+            → Has (setOf w (λ j. someBelow w (λ i. has todo i && has (hanging after prior k left i) j))) g
         all i zero u e = absurd (false≢true e)
         all i (suc j) u e =
-            has-setOf-in 32 (λ j. someBelow 32 (λ i. has todo i && has (hanging after prior k left i) j)) j
-            (member-below 32 left j ll (hanging-part i (suc j) e))
-            ∙ below-in 32 (λ i. has todo i && has (hanging after prior k left i) j) i (member-below 32 todo i lt u)
+            has-setOf-in w (λ j. someBelow w (λ i. has todo i && has (hanging after prior k left i) j)) j
+            (member-below w left j ll (hanging-part i (suc j) e))
+            ∙ below-in w (λ i. has todo i && has (hanging after prior k left i) j) i (member-below w todo i lt u)
             (and-i (has todo i) (has (hanging after prior k left i) j) u e)
 
     -- ---- the loop over the goals of a set that finds them: `all` is found, `todo` still to be visited
 
     abbrev any : ℕ → ℕ
-    any todo = hangingAny after prior k left todo
+    any todo = hangingAny w after prior k left todo
 
     -- where none is to be visited, all is found
-    pub any-end : {all todo r : ℕ} → union all (hangingAny after prior k left todo) ≡ r → todo ≡ 0 → all ≡ r
+    pub any-end : {all todo r : ℕ} → union all (hangingAny w after prior k left todo) ≡ r → todo ≡ 0 → all ≡ r
     any-end {all} e z = sym (or-zero-r all) ∙ ap (union all) (sym (ap any z ∙ none)) ∙ e
       where
         none : any 0 ≡ 0
@@ -99,12 +103,12 @@ module _ (after prior : List ℕ) (k : Bool) (left : ℕ) where
             none-empty (any 0)
             (λ j.
             is-false (has (any 0) j)
-            (λ e. let o = near-any 0 (pow-pos 32) .from (suc j) e in clash (o .1) (goal-none (suc (o .0)))))
+            (λ e. let o = near-any 0 (pow-pos w) .from (suc j) e in clash (o .1) (goal-none (suc (o .0)))))
 
     -- the lowest is visited
-    module _ (all todo : ℕ) (la : all < 2 ^ 32) (lt : todo < 2 ^ 32) (some : todo ≡ 0 → ⊥) where
+    module _ (all todo : ℕ) (la : all < 2 ^ w) (lt : todo < 2 ^ w) (some : todo ≡ 0 → ⊥) where
       abbrev i : ℕ
-      i = first 32 todo
+      i = first w todo
 
       abbrev near-i : ℕ
       near-i = hanging after prior k left i
@@ -113,10 +117,10 @@ module _ (after prior : List ℕ) (k : Bool) (left : ℕ) where
       others = without todo (single i)
 
       there : Has todo (suc i)
-      there = first-member 32 todo (first-in 32 todo lt some)
+      there = first-member w todo (first-in w todo lt some)
 
       near-others : Near after prior k left others (any others)
-      near-others = near-any others (without-lt 32 todo (single i) lt)
+      near-others = near-any others (without-lt w todo (single i) lt)
 
       parts : (j : ℕ) → has near-i j || has (any others) j ≡ has (any todo) j
       parts j =
@@ -134,12 +138,12 @@ module _ (after prior : List ℕ) (k : Bool) (left : ℕ) where
           n : Near after prior k left todo (any todo)
           n = near-any todo lt
 
-      pub any-more : union (union all (hanging after prior k left (first 32 todo))) (hangingAny after prior k left (without todo (single (first 32 todo))))
-          ≡ union all (hangingAny after prior k left todo)
+      pub any-more : union (union all (hanging after prior k left (first w todo))) (hangingAny w after prior k left (without todo (single (first w todo))))
+          ≡ union all (hangingAny w after prior k left todo)
       any-more =
-          ext 32 (union (union all near-i) (any others)) (union all (any todo))
-          (union-lt 32 (union all near-i) (any others) (union-lt 32 all near-i la (inside near-i (near-single i))) (inside (any others) near-others))
-          (union-lt 32 all (any todo) la (inside (any todo) (near-any todo lt)))
+          ext w (union (union all near-i) (any others)) (union all (any todo))
+          (union-lt w (union all near-i) (any others) (union-lt w all near-i la (inside near-i (near-single i))) (inside (any others) near-others))
+          (union-lt w all (any todo) la (inside (any todo) (near-any todo lt)))
           (λ j l.
           has-union (union all near-i) (any others) j
           ∙ ap (λ (t : Bool). t || has (any others) j) (has-union all near-i j)
@@ -147,8 +151,8 @@ module _ (after prior : List ℕ) (k : Bool) (left : ℕ) where
           ∙ ap (λ (t : Bool). has all j || t) (parts j)
           ∙ sym (has-union all (any todo) j))
         where
-          inside : (m : ℕ) {s : ℕ} → Near after prior k left s m → m < 2 ^ 32
-          inside m n = part-lt 32 m left (near-part n) ll
+          inside : (m : ℕ) {s : ℕ} → Near after prior k left s m → m < 2 ^ w
+          inside m n = part-lt w m left (near-part n) ll
 
 -- ---- the part grows
 
@@ -209,16 +213,16 @@ module _ (after prior : List ℕ) (k : Bool) (set : ℕ) (turned : Turned after 
 
     -- in the end it is the component
     pub grow-end : {left todo : ℕ} → Has set (suc x) → Growing after k set x left todo → todo ≡ 0 → Component R k (Has set) (suc x) (Has (without set left))
-    grow-end {left} {todo} h w z =
+    grow-end {left} {todo} h st z =
         record {
           inside = λ g e. without-l set left g e;
-          start = without-i set left (suc x) h (w .start);
+          start = without-i set left (suc x) h (st .start);
           closed =
               λ g j e s t.
               without-i set left j s
               (is-false (hasGoal left j)
-              (λ l. w .looked g j (without-l set left g e) (without-r set left g e) (ap (λ (m : ℕ). hasGoal m g) z ∙ goal-none g) l t));
-          smallest = λ Q q c g e. w .smallest Q q c g (without-l set left g e) (without-r set left g e);
+              (λ l. st .looked g j (without-l set left g e) (without-r set left g e) (ap (λ (m : ℕ). hasGoal m g) z ∙ goal-none g) l t));
+          smallest = λ Q q c g e. st .smallest Q q c g (without-l set left g e) (without-r set left g e);
         }
 
     -- a goal that nothing hangs together with is a component alone
@@ -241,7 +245,7 @@ module _ (after prior : List ℕ) (k : Bool) (set : ℕ) (turned : Turned after 
         }
 
     -- all that hangs together with a goal of `todo` comes into the part
-    module _ {left todo fresh : ℕ} (w : Growing after k set x left todo) (n : Near after prior k left todo fresh) where
+    module _ {left todo fresh : ℕ} (st : Growing after k set x left todo) (n : Near after prior k left todo fresh) where
       -- a goal that is no longer left is fresh, or was not left before
       taken : (g : ℕ) → hasGoal (without left fresh) g ≡ false → (hasGoal left g ≡ false) ⊎ Has fresh g
       taken g f =
@@ -251,25 +255,25 @@ module _ (after prior : List ℕ) (k : Bool) (set : ℕ) (turned : Turned after 
       grow-on : Growing after k set x (without left fresh) fresh
       grow-on =
           record {
-            left-in = λ g e. w .left-in g (without-l left fresh g e);
-            todo-in = λ g e. w .left-in g (near-part after prior k left n g e);
+            left-in = λ g e. st .left-in g (without-l left fresh g e);
+            todo-in = λ g e. st .left-in g (near-part after prior k left n g e);
             apart = λ g e. is-false (hasGoal (without left fresh) g) (λ l. clash e (without-r left fresh g l));
-            start = is-false (hasGoal (without left fresh) (suc x)) (λ t. clash (without-l left fresh (suc x) t) (w .start));
+            start = is-false (hasGoal (without left fresh) (suc x)) (λ t. clash (without-l left fresh (suc x) t) (st .start));
             looked =
                 λ g j s f t l e.
                 ⊎-elim
                 (λ (q : hasGoal left g ≡ false).
-                ⊎-elim (λ (d : Has todo g). near g j d l e) (λ (d : hasGoal todo g ≡ false). w .looked g j s q d (without-l left fresh j l) e)
+                ⊎-elim (λ (d : Has todo g). near g j d l e) (λ (d : hasGoal todo g ≡ false). st .looked g j s q d (without-l left fresh j l) e)
                 (test (hasGoal todo g)))
                 (λ (q : Has fresh g). clash q t) (taken g f);
             smallest =
                 λ Q q c g s f.
-                ⊎-elim (λ t. w .smallest Q q c g s t)
+                ⊎-elim (λ t. st .smallest Q q c g s t)
                 (λ t.
                 let o = n .from g t in
                 let i = suc (o .0) in
-                let mine = w .todo-in i (o .1) in
-                c i g (w .smallest Q q c i mine (w .apart i (o .1))) s (hanging-out left (o .0) g mine s (o .2) .1)) (taken g f);
+                let mine = st .todo-in i (o .1) in
+                c i g (st .smallest Q q c i mine (st .apart i (o .1))) s (hanging-out left (o .0) g mine s (o .2) .1)) (taken g f);
           }
         where
           -- what hangs together with a goal of `todo` is fresh
@@ -277,24 +281,24 @@ module _ (after prior : List ℕ) (k : Bool) (set : ℕ) (turned : Turned after 
           near zero j d l e = false≢true d
           near (suc i) j d l e =
               let in-left = without-l left fresh j l in
-              clash (n .all i j d (hanging-in left i j (w .todo-in (suc i) d) (w .left-in j in-left) in-left e)) (without-r left fresh j l)
+              clash (n .all i j d (hanging-in left i j (st .todo-in (suc i) d) (st .left-in j in-left) in-left e)) (without-r left fresh j l)
 
       -- what is left now, and to be looked at, was left; what was to be looked at is neither
-      grow-less : set < 2 ^ 32 → (todo ≡ 0 → ⊥) → (todo′ : ℕ) → Part todo′ fresh → count (union (without left fresh) todo′) < count (union left todo)
-      grow-less l some todo′ fewer =
-          part-less 32 (union (without left fresh) todo′) (union left todo)
-          (λ g e. goal-union left todo g ∙ or-l (hasGoal left g) (hasGoal todo g) (was-left g e)) (part-lt 32 (union left todo) set all l)
+      grow-less : (w : ℕ) → set < 2 ^ w → (todo ≡ 0 → ⊥) → (todo′ : ℕ) → Part todo′ fresh → count (union (without left fresh) todo′) < count (union left todo)
+      grow-less w l some todo′ fewer =
+          part-less w (union (without left fresh) todo′) (union left todo)
+          (λ g e. goal-union left todo g ∙ or-l (hasGoal left g) (hasGoal todo g) (was-left g e)) (part-lt w (union left todo) set all l)
           (λ e.
-          clash (was-left i (ap (λ (m : ℕ). hasGoal m i) e ∙ goal-union left todo i ∙ or-r (hasGoal left i) (hasGoal todo i) there)) (w .apart i there))
+          clash (was-left i (ap (λ (m : ℕ). hasGoal m i) e ∙ goal-union left todo i ∙ or-r (hasGoal left i) (hasGoal todo i) there)) (st .apart i there))
         where
           i : ℕ
-          i = suc (first 32 todo)
+          i = suc (first w todo)
 
           there : Has todo i
-          there = first-member 32 todo (first-in 32 todo (part-lt 32 todo set (w .todo-in) l) some)
+          there = first-member w todo (first-in w todo (part-lt w todo set (st .todo-in) l) some)
 
           all : Part (union left todo) set
-          all g e = or-elim (hasGoal left g) (hasGoal todo g) (sym (goal-union left todo g) ∙ e) (w .left-in g) (w .todo-in g)
+          all g e = or-elim (hasGoal left g) (hasGoal todo g) (sym (goal-union left todo g) ∙ e) (st .left-in g) (st .todo-in g)
 
           was-left : Part (union (without left fresh) todo′) left
           was-left g e =
@@ -304,19 +308,19 @@ module _ (after prior : List ℕ) (k : Bool) (set : ℕ) (turned : Turned after 
     -- where nothing is left, nothing is to be looked at
     grow-pending : {left todo : ℕ} → Growing after k set x left todo → Growing after k set x left (pending todo left)
     unfolding pending
-    grow-pending {left} {todo} w = go (eqb left 0) refl
+    grow-pending {left} {todo} st = go (eqb left 0) refl
       where
         go : (t : Bool) → eqb left 0 ≡ t → Growing after k set x left (cond t 0 todo)
         go true e =
             record {
-              left-in = w .left-in;
+              left-in = st .left-in;
               todo-in = λ g h. clash h (goal-none g);
               apart = λ g h. clash h (goal-none g);
-              start = w .start;
+              start = st .start;
               looked = λ g j s f t l d. clash l (ap (λ (m : ℕ). hasGoal m j) (eqb-true left 0 e) ∙ goal-none j);
-              smallest = w .smallest;
+              smallest = st .smallest;
             }
-        go false e = w
+        go false e = st
 
     pending-part : (todo left : ℕ) → Part (pending todo left) todo
     unfolding pending
@@ -329,8 +333,8 @@ module _ (after prior : List ℕ) (k : Bool) (set : ℕ) (turned : Turned after 
     -- one step, as the code takes it
     grow-next : {left todo fresh left′ todo′ : ℕ} → Growing after k set x left todo → Near after prior k left todo fresh → left′ ≡ without left fresh
         → todo′ ≡ pending fresh left′ → Growing after k set x left′ todo′
-    grow-next {fresh = fresh} {left′ = left′} w n el et =
-        subst (Growing after k set x left′) (sym et) (grow-pending (subst (λ (m : ℕ). Growing after k set x m fresh) (sym el) (grow-on w n)))
+    grow-next {fresh = fresh} {left′ = left′} st n el et =
+        subst (Growing after k set x left′) (sym et) (grow-pending (subst (λ (m : ℕ). Growing after k set x m fresh) (sym el) (grow-on st n)))
 
     -- the goal itself is looked at before the loop
     pub grow-begin : Has set (suc x) → {one rest fresh left todo : ℕ} → one ≡ single x → rest ≡ without set one → fresh ≡ hanging after prior k rest x
@@ -339,18 +343,18 @@ module _ (after prior : List ℕ) (k : Bool) (set : ℕ) (turned : Turned after 
         grow-next (subst (λ (m : ℕ). Growing after k set x m (single x)) (sym (er ∙ ap (without set) eo)) (grow-start h))
         (subst (Near after prior k rest (single x)) (sym ef) (near-single after prior k rest x))
 
-    pub grow-step : {left todo fresh left′ todo′ : ℕ} → set < 2 ^ 32 → Growing after k set x left todo → (todo ≡ 0 → ⊥)
-        → fresh ≡ hangingAny after prior k left todo → left′ ≡ without left fresh → todo′ ≡ pending fresh left′
+    pub grow-step : {left todo fresh left′ todo′ : ℕ} → (w : ℕ) → set < 2 ^ w → Growing after k set x left todo → (todo ≡ 0 → ⊥)
+        → fresh ≡ hangingAny w after prior k left todo → left′ ≡ without left fresh → todo′ ≡ pending fresh left′
         → Growing after k set x left′ todo′ × (count (union left′ todo′) < count (union left todo))
-    grow-step {left} {todo} {fresh} {left′} {todo′} l w some ef el et =
+    grow-step {left} {todo} {fresh} {left′} {todo′} w l st some ef el et =
         let n : Near after prior k left todo fresh
-        = subst (Near after prior k left todo) (sym ef) (near-any after prior k left (part-lt 32 left set (w .left-in) l) todo (part-lt 32 todo set (w .todo-in) l)) in
+        = subst (Near after prior k left todo) (sym ef) (near-any after prior k left w (part-lt w left set (st .left-in) l) todo (part-lt w todo set (st .todo-in) l)) in
         let p : Part todo′ fresh = λ g h. pending-part fresh left′ g (ap (λ (m : ℕ). hasGoal m g) (sym et) ∙ h) in
-        (grow-next w n el et, subst (λ (m : ℕ). count (union m todo′) < count (union left todo)) (sym el) (grow-less w n l some todo′ p))
+        (grow-next st n el et, subst (λ (m : ℕ). count (union m todo′) < count (union left todo)) (sym el) (grow-less st n w l some todo′ p))
 
     pub grow-done : {left todo r : ℕ} → Has set (suc x) → Growing after k set x left todo → todo ≡ 0 → r ≡ without set left
         → Component (ahead after) k (Has set) (suc x) (Has r)
-    grow-done h w z e = subst (λ (r : ℕ). Component (ahead after) k (Has set) (suc x) (Has r)) (sym e) (grow-end h w z)
+    grow-done h st z e = subst (λ (r : ℕ). Component (ahead after) k (Has set) (suc x) (Has r)) (sym e) (grow-end h st z)
 
 -- the two kinds
 pub hanging-sequence : (after prior : List ℕ) (k : Bool) (left i : ℕ) → k ≡ true → without left (union (getD after i 0) (getD prior i 0)) ≡ hanging after prior k left i

@@ -12,9 +12,9 @@ unfoldable pub hanging : List ℕ → List ℕ → Bool → ℕ → ℕ → ℕ
 hanging after prior k left i =
     cond k (without left (union (getD after i 0) (getD prior i 0))) (meet left (union (getD after i 0) (getD prior i 0)))
 
--- those of `left` that hang together with a goal of a set
-unfoldable pub hangingAny : List ℕ → List ℕ → Bool → ℕ → ℕ → ℕ
-hangingAny after prior k left set = setOf 32 (λ j. someBelow 32 (λ i. has set i && has (hanging after prior k left i) j))
+-- those of `left` that hang together with a goal of a set, of the goals 1 to w
+unfoldable pub hangingAny : ℕ → List ℕ → List ℕ → Bool → ℕ → ℕ → ℕ
+hangingAny w after prior k left set = setOf w (λ j. someBelow w (λ i. has set i && has (hanging after prior k left i) j))
 
 -- what is still to be looked at of `todo`, where `left` is not yet in the part: nothing if that is empty
 unfoldable pub pending : ℕ → ℕ → ℕ

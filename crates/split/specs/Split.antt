@@ -23,10 +23,10 @@ pub record Ordered (after prior : List ℕ) (set : ℕ) : Type 0 where
   pub turned : Turned after prior set
   pub some : (g : ℕ) × Has set g
 
--- the house form of the goals of a set
-unfoldable pub formOf : List ℕ → ℕ → Expr
-formOf after set = formOnAny (ahead after) 32 (hasGoal set)
+-- the house form of those of the goals 1 to w that are in a set
+unfoldable pub formOf : ℕ → List ℕ → ℕ → Expr
+formOf w after set = formOnAny (ahead after) w (hasGoal set)
 
 -- its text: as a member's, in parentheses unless it is a goal; or as the outermost
-unfoldable pub formText : Bool → List ℕ → ℕ → List ℕ
-formText nested after set = cond nested (inner (formOf after set)) (text (formOf after set))
+unfoldable pub formText : ℕ → Bool → List ℕ → ℕ → List ℕ
+formText w nested after set = cond nested (inner (formOf w after set)) (text (formOf w after set))

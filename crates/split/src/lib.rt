@@ -1,11 +1,10 @@
 // Splitting a set of goals into the members of its house form, and writing the form's text. For any strict order on the goals.
+use graph::Graph;
 ghost use mathlib.Core.Path.{_≡_};
-ghost use mathlib.Core.Bool.{true, false};
 ghost use Prim.Native.Nat.{suc, _+_, _^_, _<_};
 ghost use lib.ListN.{length};
 ghost use denote.Ref.{now};
 ghost use Rattle.graph.specs.Graph.{ahead, behind};
-ghost use Rattle.sets.specs.Sets.{first};
 ghost use Rattle.text.specs.Text.{Wrote};
 ghost use Rattle.expression.specs.Arrange.{Strict};
 ghost use Rattle.expression.specs.Split.{Component, Starts};
@@ -14,7 +13,13 @@ ghost use Rattle.split.specs.Hang as Hang;
 ghost use Rattle.split.specs.Split.{Has, Turned, Ordered, formText};
 
 // Those of `left` that hang together with goal i + 1.
-fn hanging(after: &[u32; 32], prior: &[u32; 32], k: bool, left: u32, i: usize) -> u32
+fn hanging(
+    after: &[u32; Graph::MAX],
+    prior: &[u32; Graph::MAX],
+    k: bool,
+    left: u32,
+    i: usize,
+) -> u32
     requires { ⌜ i < 32 ⌝ }
     ensures { λ r. ⌜ r ≡ Hang.hanging (now (after .entry)) (now (prior .entry)) k left i ⌝ }
 {
@@ -29,8 +34,14 @@ fn hanging(after: &[u32; 32], prior: &[u32; 32], k: bool, left: u32, i: usize) -
 }
 
 // Those of `left` that hang together with a goal of the set.
-fn hanging_any(after: &[u32; 32], prior: &[u32; 32], k: bool, left: u32, set: u32) -> u32
-    ensures { λ r. ⌜ r ≡ Hang.hangingAny (now (after .entry)) (now (prior .entry)) k left set ⌝ }
+fn hanging_any(
+    after: &[u32; Graph::MAX],
+    prior: &[u32; Graph::MAX],
+    k: bool,
+    left: u32,
+    set: u32,
+) -> u32
+    ensures { λ r. ⌜ r ≡ Hang.hangingAny 32 (now (after .entry)) (now (prior .entry)) k left set ⌝ }
 {
     let mut all = 0u32;
     let mut todo = set;
@@ -50,11 +61,17 @@ fn pending(todo: u32, left: u32) -> u32
 }
 
 // The part of the set that hangs together with goal x + 1, step by step: `left` is what is not yet in it, `todo` what came into it with the last step.
-fn component(after: &[u32; 32], prior: &[u32; 32], k: bool, set: u32, x: usize) -> u32
+fn component(
+    after: &[u32; Graph::MAX],
+    prior: &[u32; Graph::MAX],
+    k: bool,
+    set: u32,
+    x: usize,
+) -> u32
     requires { ⌜ (x < 32) × Has set (suc x) × Turned (now after) (now prior) set ⌝ }
     ensures { λ r. ⌜ Component (ahead (now (after .entry))) k (Has set) (suc x) (Has r) ⌝ }
 {
-    let start = sets::single32(x);
+    let start = Graph::single(x + 1);
     let rest = sets::without32(set, start);
     let first = hanging(after, prior, k, rest, x);
     if first == 0 {
@@ -71,7 +88,7 @@ fn component(after: &[u32; 32], prior: &[u32; 32], k: bool, set: u32, x: usize) 
 }
 
 // Those of `rest` that are before goal x + 1, if that matters.
-fn earlier(prior: &[u32; 32], k: bool, rest: u32, x: usize) -> u32
+fn earlier(prior: &[u32; Graph::MAX], k: bool, rest: u32, x: usize) -> u32
     requires { ⌜ x < 32 ⌝ }
     ensures { λ r. ⌜ r ≡ Hang.earlier (now (prior .entry)) k rest x ⌝ }
 {
@@ -80,7 +97,7 @@ fn earlier(prior: &[u32; 32], k: bool, rest: u32, x: usize) -> u32
 }
 
 // A goal, less one, of the first member: of a group the lowest goal, of a sequence one that no goal comes before.
-fn start(prior: &[u32; 32], k: bool, rest: u32) -> usize
+fn start(prior: &[u32; Graph::MAX], k: bool, rest: u32) -> usize
     requires { ⌜ Strict (behind (now prior)) (Has rest) × ((g : _) × Has rest g) ⌝ }
     ensures { λ r. ⌜ (r < 32) × Has rest (suc r) × Starts (behind (now (prior .entry))) k (Has rest) (suc r) ⌝ }
 {
@@ -100,7 +117,7 @@ struct Part {
 }
 
 // The first member of what is left.
-fn member(after: &[u32; 32], prior: &[u32; 32], k: bool, rest: u32) -> Part
+fn member(after: &[u32; Graph::MAX], prior: &[u32; Graph::MAX], k: bool, rest: u32) -> Part
     requires { ⌜ Strict (behind (now prior)) (Has rest) × Turned (now after) (now prior) rest × ((g : _) × Has rest g) ⌝ }
     ensures { λ r. ⌜ (r .start < 32) × Has rest (suc (r .start)) ⌝ }
     ensures { λ r. ⌜ Starts (behind (now (prior .entry))) k (Has rest) (suc (r .start)) ⌝ }
@@ -109,33 +126,6 @@ fn member(after: &[u32; 32], prior: &[u32; 32], k: bool, rest: u32) -> Part
     let x = start(prior, k, rest);
     let goals = component(after, prior, k, rest, x);
     Part { start: x, goals }
-}
-
-// The same, where `found` is the component of the set's lowest goal, x + 1, in a group: of a group's goals all together it is the first member already.
-fn next(
-    after: &[u32; 32],
-    prior: &[u32; 32],
-    k: bool,
-    rest: u32,
-    set: u32,
-    x: usize,
-    found: u32,
-) -> Part
-    requires { ⌜ Strict (behind (now prior)) (Has rest) × Turned (now after) (now prior) rest × ((g : _) × Has rest g) ⌝ }
-    requires { ⌜ (x < 32) × (x ≡ first 32 set) × Component (ahead (now after)) false (Has set) (suc x) (Has found) ⌝ }
-    ensures { λ r. ⌜ (r .start < 32) × Has rest (suc (r .start)) ⌝ }
-    ensures { λ r. ⌜ Starts (behind (now (prior .entry))) k (Has rest) (suc (r .start)) ⌝ }
-    ensures { λ r. ⌜ Component (ahead (now (after .entry))) k (Has rest) (suc (r .start)) (Has (r .goals)) ⌝ }
-{
-    if rest == set {
-        if !k {
-            return Part {
-                start: x,
-                goals: found,
-            };
-        }
-    }
-    member(after, prior, k, rest)
 }
 
 // The byte between two members.
@@ -149,16 +139,16 @@ fn mark(k: bool) -> u8
 pub fn put_form(
     out: &mut [u8],
     at: usize,
-    after: &[u32; 32],
-    prior: &[u32; 32],
+    after: &[u32; Graph::MAX],
+    prior: &[u32; Graph::MAX],
     set: u32,
     nested: bool,
 ) -> usize
-    requires { ⌜ Ordered (now after) (now prior) set × (at + length (formText nested (now after) set) < 2 ^ 63) ⌝ }
-    ensures { λ r. ⌜ Wrote (formText nested (now (after .entry)) set) at (now (out .entry)) r (now (out .exit)) ⌝ }
+    requires { ⌜ Ordered (now after) (now prior) set × (at + length (formText 32 nested (now after) set) < 2 ^ 63) ⌝ }
+    ensures { λ r. ⌜ Wrote (formText 32 nested (now (after .entry)) set) at (now (out .entry)) r (now (out .exit)) ⌝ }
 {
     let x = sets::first32(set);
-    if sets::single32(x) == set {
+    if Graph::single(x + 1) == set {
         return text::put_number(out, at, (x + 1) as u8);
     }
     let found = component(after, prior, false, set, x);
@@ -167,7 +157,7 @@ pub fn put_form(
     let mut o = text::put_if(out, at, b'(', nested);
     let mut rest = set;
     while rest != 0 {
-        let m = next(after, prior, k, rest, set, x, found);
+        let m = member(after, prior, k, rest);
         let c = m.goals;
         o = put_form(out, o, after, prior, c, true);
         rest = sets::without32(rest, c);

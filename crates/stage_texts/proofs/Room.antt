@@ -22,27 +22,27 @@ same-or a b = go (eqb a b) refl
     go false e = inr (eqb-false a b e)
 
 -- a stage of several goals
-module _ (head : ℕ) (sets grounds rows : List ℕ) (p q : ℕ) (n : q ≡ p + 1 → ⊥) where
+module _ (w head : ℕ) (sets grounds rows : List ℕ) (p q : ℕ) (n : q ≡ p + 1 → ⊥) where
   abbrev t : ℕ
-  t = length (checksText head sets grounds rows true p q)
+  t = length (checksText w head sets grounds rows true p q)
 
-  pub stage-none : t ≡ 0 → length (goalsText p q) + 2 ≡ length (stageText head sets grounds rows p q)
+  pub stage-none : t ≡ 0 → length (goalsText p q) + 2 ≡ length (stageText w head sets grounds rows p q)
   unfolding checksText
-  stage-none e = omega (arith, around-none (checks (given head sets grounds rows) p q) e, simp length-append at (ap length (stage-parts head sets grounds rows p q n)))
+  stage-none e = omega (arith, around-none (checks (given w head sets grounds rows) p q) e, simp length-append at (ap length (stage-parts w head sets grounds rows p q n)))
 
-  pub stage-some : (t ≡ 0 → ⊥) → t + length (goalsText p q) + 3 ≡ length (stageText head sets grounds rows p q)
+  pub stage-some : (t ≡ 0 → ⊥) → t + length (goalsText p q) + 3 ≡ length (stageText w head sets grounds rows p q)
   unfolding checksText
-  stage-some e = omega (arith, around-some (checks (given head sets grounds rows) p q) e, simp length-append at (ap length (stage-parts head sets grounds rows p q n)))
+  stage-some e = omega (arith, around-some (checks (given w head sets grounds rows) p q) e, simp length-append at (ap length (stage-parts w head sets grounds rows p q n)))
 
   -- its checks and its goals take no more
-  pub stage-room : t + length (goalsText p q) + 2 ≤ length (stageText head sets grounds rows p q)
+  pub stage-room : t + length (goalsText p q) + 2 ≤ length (stageText w head sets grounds rows p q)
   stage-room = ⊎-elim (λ e. omega (arith, e, stage-none e)) (λ e. omega (arith, stage-some e)) (same-or t 0)
 
 -- the last stage is no longer than all
-pub stages-room : (head : ℕ) (sets grounds rows : List ℕ) (q : ℕ) → 0 < q
-    → length (stageText head sets grounds rows (start 64 head sets q) q) ≤ length (stagesText head sets grounds rows q)
-stages-room head sets grounds rows q h =
+pub stages-room : (w head : ℕ) (sets grounds rows : List ℕ) (q : ℕ) → 0 < q
+    → length (stageText w head sets grounds rows (start w head sets q) q) ≤ length (stagesText w head sets grounds rows q)
+stages-room w head sets grounds rows q h =
     ⊎-elim
-    (λ e. omega (arith, ap length (stages-one head sets grounds rows q h e)))
-    (λ e. omega (arith, simp length-append at (ap length (stages-more head sets grounds rows q h e))))
-    (same-or (start 64 head sets q) 0)
+    (λ e. omega (arith, ap length (stages-one w head sets grounds rows q h e)))
+    (λ e. omega (arith, simp length-append at (ap length (stages-more w head sets grounds rows q h e))))
+    (same-or (start w head sets q) 0)

@@ -9,7 +9,7 @@ use Rattle.sets.specs.Sets.{has, membersFrom, members}
 use Rattle.text.specs.Text.{Wrote, pickBool, someTexts, decimal, joinFrom, nonEmpty, only}
 use Rattle.text.proofs.Laws.{join-step, join-none, join-append}
 use Rattle.stages.specs.Mel as W
-use Rattle.stages.specs.Mel.{Clause, Stage, Check, Ground, Indep, goal, checksFrom, arrowIf, goalsText, checks, start, stages, thoseFrom, indepsFrom, indepCheck}
+use Rattle.stages.specs.Mel.{Stage, Check, Ground, Indep, goal, checksFrom, arrowIf, goalsText, checks, start, stages, thoseFrom, indepsFrom, indepCheck}
 use Rattle.stages.specs.Masks.{given, partners}
 use Rattle.stages.proofs.Pairs.{those-members, those-none, grounds-mask, indep-masks}
 use Rattle.stages.proofs.Stages.{stages-none, stages-last}
@@ -18,7 +18,7 @@ use Rattle.checks.proofs.Lists.{checks-append}
 use Rattle.stage_texts.specs.Texts.{groundSet, pairSet, checksText, stageText, stagesText}
 use Rattle.stage_texts.proofs.Opened.{opened, some-checks}
 
-module _ (head : ℕ) (sets grounds rows : List ℕ) where
+module _ (w head : ℕ) (sets grounds rows : List ℕ) where
   module _ (p q : ℕ) where
     abbrev gset : ℕ
     gset = groundSet sets grounds p q
@@ -26,54 +26,51 @@ module _ (head : ℕ) (sets grounds rows : List ℕ) where
     abbrev kset : ℕ
     kset = pairSet head sets grounds p q
 
-    pairs-masks : (k x : ℕ) → indepsFrom (given head sets grounds rows) k x p q ≡ pairsOf sets rows p q kset (membersFrom k x kset)
+    pairs-masks : (k x : ℕ) → indepsFrom (given w head sets grounds rows) k x p q ≡ pairsOf w sets rows p q kset (membersFrom k x kset)
     unfolding given indepsFrom membersFrom pairsOf
     pairs-masks zero x = refl
     pairs-masks (suc k) x = go (has kset x) refl (pairs-masks k (suc x))
       where
-        c : Clause
-        c = given head sets grounds rows
+        masks : (y : ℕ) → indepCheck (given w head sets grounds rows) p q x y ≡ has kset x && has (partners sets p q kset (goal rows (x + 1)) x) y
+        masks y = indep-masks (given w head sets grounds rows) p q x (goal rows (x + 1)) (λ z. refl) y
 
-        masks : (y : ℕ) → indepCheck (given head sets grounds rows) p q x y ≡ has kset x && has (partners sets p q kset (goal rows (x + 1)) x) y
-        masks y = indep-masks (given head sets grounds rows) p q x (goal rows (x + 1)) (λ z. refl) y
-
-        go : (b : Bool) → has kset x ≡ b → indepsFrom (given head sets grounds rows) k (suc x) p q ≡ pairsOf sets rows p q kset (membersFrom k (suc x) kset)
-            → map (Indep x) (thoseFrom 64 0 (indepCheck (given head sets grounds rows) p q x)) ++ indepsFrom (given head sets grounds rows) k (suc x) p q
-            ≡ pairsOf sets rows p q kset (cond b (x ∷ membersFrom k (suc x) kset) (membersFrom k (suc x) kset))
+        go : (b : Bool) → has kset x ≡ b → indepsFrom (given w head sets grounds rows) k (suc x) p q ≡ pairsOf w sets rows p q kset (membersFrom k (suc x) kset)
+            → map (Indep x) (thoseFrom w 0 (indepCheck (given w head sets grounds rows) p q x)) ++ indepsFrom (given w head sets grounds rows) k (suc x) p q
+            ≡ pairsOf w sets rows p q kset (cond b (x ∷ membersFrom k (suc x) kset) (membersFrom k (suc x) kset))
         go true e ih =
             ap₂ (λ (a b : List Check). a ++ b)
-            (ap (map (Indep x)) (those-members 64 0 (partners sets p q kset (goal rows (x + 1)) x) (indepCheck (given head sets grounds rows) p q x)
+            (ap (map (Indep x)) (those-members w 0 (partners sets p q kset (goal rows (x + 1)) x) (indepCheck (given w head sets grounds rows) p q x)
             (λ y. masks y ∙ ap (λ (t : Bool). t && has (partners sets p q kset (goal rows (x + 1)) x) y) e))) ih
         go false e ih =
-            ap (λ (l : List ℕ). map (Indep x) l ++ indepsFrom (given head sets grounds rows) k (suc x) p q)
-            (those-none 64 0 (indepCheck (given head sets grounds rows) p q x) (λ y. masks y ∙ ap (λ (t : Bool). t && has (partners sets p q kset (goal rows (x + 1)) x) y) e))
+            ap (λ (l : List ℕ). map (Indep x) l ++ indepsFrom (given w head sets grounds rows) k (suc x) p q)
+            (those-none w 0 (indepCheck (given w head sets grounds rows) p q x) (λ y. masks y ∙ ap (λ (t : Bool). t && has (partners sets p q kset (goal rows (x + 1)) x) y) e))
             ∙ ih
 
-    pub checks-masks : checks (given head sets grounds rows) p q ≡ map Ground (members 64 gset) ++ pairsOf sets rows p q kset (members 64 kset)
+    pub checks-masks : checks (given w head sets grounds rows) p q ≡ map Ground (members w gset) ++ pairsOf w sets rows p q kset (members w kset)
     unfolding given checks
-    checks-masks = ap₂ (λ (a : List ℕ) (b : List Check). map Ground a ++ b) (grounds-mask (given head sets grounds rows) p q) (pairs-masks 64 0)
+    checks-masks = ap₂ (λ (a : List ℕ) (b : List Check). map Ground a ++ b) (grounds-mask (given w head sets grounds rows) p q) (pairs-masks w 0)
 
     -- the ground checks, and then the independence checks
-    pub checks-parts : groundsText gset ++ pairsText sets rows p q kset kset ≡ checksText head sets grounds rows true p q
+    pub checks-parts : groundsText w gset ++ pairsText w sets rows p q kset kset ≡ checksText w head sets grounds rows true p q
     unfolding groundsText pairsText checksText
-    checks-parts = sym (ap (checksFrom true) checks-masks ∙ checks-append (map Ground (members 64 gset)) (pairsOf sets rows p q kset (members 64 kset)))
+    checks-parts = sym (ap (checksFrom true) checks-masks ∙ checks-append (map Ground (members w gset)) (pairsOf w sets rows p q kset (members w kset)))
 
     -- the parenthesis in the place of the first comma, or alone
-    pub checks-opened : {at c e : ℕ} {old n o : List ℕ} → Wrote (checksText head sets grounds rows true p q) at old c n → Wrote (40 ∷ []) at n e o
-        → Wrote ((40 ∷ []) ++ checksText head sets grounds rows false p q) at old (max e c) o
+    pub checks-opened : {at c e : ℕ} {old n o : List ℕ} → Wrote (checksText w head sets grounds rows true p q) at old c n → Wrote (40 ∷ []) at n e o
+        → Wrote ((40 ∷ []) ++ checksText w head sets grounds rows false p q) at old (max e c) o
     unfolding checksText
-    checks-opened w v = opened (checks (given head sets grounds rows) p q) w v
+    checks-opened t v = opened (checks (given w head sets grounds rows) p q) t v
 
-    pub checks-some : nonEmpty (checksText head sets grounds rows true p q) ≡ nonEmpty (checksText head sets grounds rows false p q)
+    pub checks-some : nonEmpty (checksText w head sets grounds rows true p q) ≡ nonEmpty (checksText w head sets grounds rows false p q)
     unfolding checksText
-    checks-some = some-checks (checks (given head sets grounds rows) p q)
+    checks-some = some-checks (checks (given w head sets grounds rows) p q)
 
-    pub stage-one : q ≡ p + 1 → decimal q ≡ stageText head sets grounds rows p q
+    pub stage-one : q ≡ p + 1 → decimal q ≡ stageText w head sets grounds rows p q
     unfolding stageText W.stageText
     stage-one e = rw (eq-eqb q (p + 1) e)
 
     pub stage-parts : (q ≡ p + 1 → ⊥) →
-        (40 ∷ []) ++ checksText head sets grounds rows false p q ++ arrowIf (nonEmpty (checksText head sets grounds rows false p q)) ++ goalsText p q ++ (41 ∷ []) ≡ stageText head sets grounds rows p q
+        (40 ∷ []) ++ checksText w head sets grounds rows false p q ++ arrowIf (nonEmpty (checksText w head sets grounds rows false p q)) ++ goalsText p q ++ (41 ∷ []) ≡ stageText w head sets grounds rows p q
     unfolding stageText W.stageText checksText
     stage-parts n = rw (ne-eqb q (p + 1) n)
 
@@ -84,46 +81,46 @@ module _ (head : ℕ) (sets grounds rows : List ℕ) where
   some-last f (y ∷ a) x = refl
 
   abbrev texts : ℕ → List (List ℕ)
-  texts q = map (W.stageText (given head sets grounds rows)) (stages 64 head sets q)
+  texts q = map (W.stageText (given w head sets grounds rows)) (stages w head sets q)
 
-  texts-last : (q : ℕ) → 0 < q → texts q ≡ texts (start 64 head sets q) ++ (stageText head sets grounds rows (start 64 head sets q) q ∷ [])
+  texts-last : (q : ℕ) → 0 < q → texts q ≡ texts (start w head sets q) ++ (stageText w head sets grounds rows (start w head sets q) q ∷ [])
   unfolding stageText
   texts-last q h =
-      ap (map (W.stageText (given head sets grounds rows))) (stages-last 64 head sets q h)
-      ∙ map-append (W.stageText (given head sets grounds rows)) (stages 64 head sets (start 64 head sets q)) (record { after = start 64 head sets q; last = q } ∷ [])
+      ap (map (W.stageText (given w head sets grounds rows))) (stages-last w head sets q h)
+      ∙ map-append (W.stageText (given w head sets grounds rows)) (stages w head sets (start w head sets q)) (record { after = start w head sets q; last = q } ∷ [])
 
-  text-of : (q : ℕ) → stagesText head sets grounds rows q ≡ joinFrom false 44 (texts q)
+  text-of : (q : ℕ) → stagesText w head sets grounds rows q ≡ joinFrom false 44 (texts q)
   unfolding stagesText W.stagesText given
   text-of q = refl
 
-  text-last : (q : ℕ) → 0 < q → stagesText head sets grounds rows q
-      ≡ joinFrom false 44 (texts (start 64 head sets q)) ++ joinFrom (pickBool (someTexts (texts (start 64 head sets q))) true false) 44 (stageText head sets grounds rows (start 64 head sets q) q ∷ [])
-  text-last q h = text-of q ∙ ap (joinFrom false 44) (texts-last q h) ∙ join-append false 44 (texts (start 64 head sets q)) (stageText head sets grounds rows (start 64 head sets q) q ∷ [])
+  text-last : (q : ℕ) → 0 < q → stagesText w head sets grounds rows q
+      ≡ joinFrom false 44 (texts (start w head sets q)) ++ joinFrom (pickBool (someTexts (texts (start w head sets q))) true false) 44 (stageText w head sets grounds rows (start w head sets q) q ∷ [])
+  text-last q h = text-of q ∙ ap (joinFrom false 44) (texts-last q h) ∙ join-append false 44 (texts (start w head sets q)) (stageText w head sets grounds rows (start w head sets q) q ∷ [])
 
   alone : (more : Bool) (t : List ℕ) → joinFrom more 44 (t ∷ []) ≡ only more 44 ++ t
   alone more t = join-step more 44 t [] ∙ ap (λ (r : List ℕ). only more 44 ++ t ++ r) (join-none true 44) ∙ append-nil (only more 44 ++ t)
 
   -- a single stage
-  pub stages-one : (q : ℕ) → 0 < q → start 64 head sets q ≡ 0 → stageText head sets grounds rows (start 64 head sets q) q ≡ stagesText head sets grounds rows q
+  pub stages-one : (q : ℕ) → 0 < q → start w head sets q ≡ 0 → stageText w head sets grounds rows (start w head sets q) q ≡ stagesText w head sets grounds rows q
   unfolding only
   stages-one q h z =
-      let e : texts (start 64 head sets q) ≡ [] = ap texts z ∙ ap (map (W.stageText (given head sets grounds rows))) (stages-none 64 head sets) in
+      let e : texts (start w head sets q) ≡ [] = ap texts z ∙ ap (map (W.stageText (given w head sets grounds rows))) (stages-none w head sets) in
       sym (text-last q h
-      ∙ ap (λ (l : List (List ℕ)). joinFrom false 44 l ++ joinFrom (pickBool (someTexts l) true false) 44 (stageText head sets grounds rows (start 64 head sets q) q ∷ [])) e
-      ∙ ap₂ (λ (a b : List ℕ). a ++ b) (join-none false 44) (alone false (stageText head sets grounds rows (start 64 head sets q) q)))
+      ∙ ap (λ (l : List (List ℕ)). joinFrom false 44 l ++ joinFrom (pickBool (someTexts l) true false) 44 (stageText w head sets grounds rows (start w head sets q) q ∷ [])) e
+      ∙ ap₂ (λ (a b : List ℕ). a ++ b) (join-none false 44) (alone false (stageText w head sets grounds rows (start w head sets q) q)))
 
   -- the stages before the last, a comma and the last
-  pub stages-more : (q : ℕ) → 0 < q → (start 64 head sets q ≡ 0 → ⊥)
-      → stagesText head sets grounds rows (start 64 head sets q) ++ (44 ∷ []) ++ stageText head sets grounds rows (start 64 head sets q) q ≡ stagesText head sets grounds rows q
+  pub stages-more : (q : ℕ) → 0 < q → (start w head sets q ≡ 0 → ⊥)
+      → stagesText w head sets grounds rows (start w head sets q) ++ (44 ∷ []) ++ stageText w head sets grounds rows (start w head sets q) q ≡ stagesText w head sets grounds rows q
   unfolding only
   stages-more q h n =
-      let p = start 64 head sets q in
+      let p = start w head sets q in
       let l : 0 < p = omega (arith, n) in
       let e : someTexts (texts p) ≡ true =
-      ap (λ (s : List Stage). someTexts (map (W.stageText (given head sets grounds rows)) s)) (stages-last 64 head sets p l)
-      ∙ some-last (W.stageText (given head sets grounds rows)) (stages 64 head sets (start 64 head sets p)) (record { after = start 64 head sets p; last = p })
+      ap (λ (s : List Stage). someTexts (map (W.stageText (given w head sets grounds rows)) s)) (stages-last w head sets p l)
+      ∙ some-last (W.stageText (given w head sets grounds rows)) (stages w head sets (start w head sets p)) (record { after = start w head sets p; last = p })
       in
       sym (text-last q h
-      ∙ ap (λ (b : Bool). joinFrom false 44 (texts p) ++ joinFrom (pickBool b true false) 44 (stageText head sets grounds rows p q ∷ [])) e
-      ∙ ap₂ (λ (a b : List ℕ). a ++ b) (sym (text-of p)) (alone true (stageText head sets grounds rows p q))
-      ∙ sym (append-assoc (stagesText head sets grounds rows p) (44 ∷ []) (stageText head sets grounds rows p q)))
+      ∙ ap (λ (b : Bool). joinFrom false 44 (texts p) ++ joinFrom (pickBool b true false) 44 (stageText w head sets grounds rows p q ∷ [])) e
+      ∙ ap₂ (λ (a b : List ℕ). a ++ b) (sym (text-of p)) (alone true (stageText w head sets grounds rows p q))
+      ∙ sym (append-assoc (stagesText w head sets grounds rows p) (44 ∷ []) (stageText w head sets grounds rows p q)))

@@ -14,17 +14,17 @@ groundSet sets grounds p q = without (twice sets p q) (goal grounds (p + 1))
 abbrev pub pairSet : ℕ → List ℕ → List ℕ → ℕ → ℕ → ℕ
 pairSet head sets grounds p q = candidates (once sets p q) (twice sets p q) (union head (once sets 0 p)) (goal grounds (p + 1))
 
--- the texts of a clause that is given as sets
-module _ (head : ℕ) (sets grounds rows : List ℕ) where
+-- the texts of a clause of w variables that is given as sets
+module _ (w head : ℕ) (sets grounds rows : List ℕ) where
   -- the checks of a stage, a comma before each, and before the first where more holds
   unfoldable pub checksText : Bool → ℕ → ℕ → List ℕ
-  checksText more p q = checksFrom more (checks (given head sets grounds rows) p q)
+  checksText more p q = checksFrom more (checks (given w head sets grounds rows) p q)
 
   unfoldable pub stageText : ℕ → ℕ → List ℕ
-  stageText p q = W.stageText (given head sets grounds rows) (record { after = p; last = q })
+  stageText p q = W.stageText (given w head sets grounds rows) (record { after = p; last = q })
 
   unfoldable pub stagesText : ℕ → List ℕ
-  stagesText q = W.stagesText (given head sets grounds rows) q
+  stagesText q = W.stagesText (given w head sets grounds rows) q
 
   unfoldable pub melText : List ℕ
-  melText = W.melText (given head sets grounds rows)
+  melText = W.melText (given w head sets grounds rows)

@@ -16,7 +16,7 @@ struct Checks {
 // The checks of the stage p+1 to q.
 fn checks_of(head: u64, sets: &[u64], before: &[u64], grounds: &[u64], p: usize, q: usize) -> Checks
     requires { ⌜ (p ≤ q) × ((q ≤ length (now sets)) × (length (now sets) ≤ 32)) ⌝ }
-    requires { ⌜ now before ≡ M.upTo (now sets) ⌝ }
+    requires { ⌜ now before ≡ M.upTo 33 (now sets) ⌝ }
     ensures { λ r. ⌜ r .ground ≡ X.groundSet (now (sets .entry)) (now (grounds .entry)) p q ⌝ }
     ensures { λ r. ⌜ r .pairs ≡ X.pairSet head (now (sets .entry)) (now (grounds .entry)) p q ⌝ }
 {
@@ -44,9 +44,9 @@ fn put_checks(
     q: usize,
 ) -> usize
     requires { ⌜ (p ≤ q) × ((q ≤ length (now sets)) × (length (now sets) ≤ 32)) ⌝ }
-    requires { ⌜ now before ≡ M.upTo (now sets) ⌝ }
-    requires { ⌜ at + length (X.checksText head (now sets) (now grounds) (now rows) true p q) ≤ length (now out) ⌝ }
-    ensures { λ r. ⌜ Wrote (X.checksText head (now (sets .entry)) (now (grounds .entry)) (now (rows .entry)) true p q) at (now (out .entry)) r (now (out .exit)) ⌝ }
+    requires { ⌜ now before ≡ M.upTo 33 (now sets) ⌝ }
+    requires { ⌜ at + length (X.checksText 64 head (now sets) (now grounds) (now rows) true p q) ≤ length (now out) ⌝ }
+    ensures { λ r. ⌜ Wrote (X.checksText 64 head (now (sets .entry)) (now (grounds .entry)) (now (rows .entry)) true p q) at (now (out .entry)) r (now (out .exit)) ⌝ }
 {
     let c = checks_of(head, sets, before, grounds, p, q);
     let o = checks::put_grounds(out, at, c.ground);
@@ -74,9 +74,9 @@ fn put_stage(
     q: usize,
 ) -> usize
     requires { ⌜ (p < q) × ((q ≤ length (now sets)) × (length (now sets) ≤ 32)) ⌝ }
-    requires { ⌜ now before ≡ M.upTo (now sets) ⌝ }
-    requires { ⌜ at + length (X.stageText head (now sets) (now grounds) (now rows) p q) ≤ length (now out) ⌝ }
-    ensures { λ r. ⌜ Wrote (X.stageText head (now (sets .entry)) (now (grounds .entry)) (now (rows .entry)) p q) at (now (out .entry)) r (now (out .exit)) ⌝ }
+    requires { ⌜ now before ≡ M.upTo 33 (now sets) ⌝ }
+    requires { ⌜ at + length (X.stageText 64 head (now sets) (now grounds) (now rows) p q) ≤ length (now out) ⌝ }
+    ensures { λ r. ⌜ Wrote (X.stageText 64 head (now (sets .entry)) (now (grounds .entry)) (now (rows .entry)) p q) at (now (out .entry)) r (now (out .exit)) ⌝ }
 {
     if q == p + 1 {
         return text::store_number(out, at, q as u8);
@@ -100,9 +100,9 @@ pub fn put_stages(
     q: usize,
 ) -> usize
     requires { ⌜ (0 < q) × ((q ≤ length (now sets)) × (length (now sets) ≤ 32)) ⌝ }
-    requires { ⌜ now before ≡ M.upTo (now sets) ⌝ }
-    requires { ⌜ at + length (X.stagesText head (now sets) (now grounds) (now rows) q) ≤ length (now out) ⌝ }
-    ensures { λ r. ⌜ Wrote (X.stagesText head (now (sets .entry)) (now (grounds .entry)) (now (rows .entry)) q) at (now (out .entry)) r (now (out .exit)) ⌝ }
+    requires { ⌜ now before ≡ M.upTo 33 (now sets) ⌝ }
+    requires { ⌜ at + length (X.stagesText 64 head (now sets) (now grounds) (now rows) q) ≤ length (now out) ⌝ }
+    ensures { λ r. ⌜ Wrote (X.stagesText 64 head (now (sets .entry)) (now (grounds .entry)) (now (rows .entry)) q) at (now (out .entry)) r (now (out .exit)) ⌝ }
 {
     let p = stages::start_of(head, sets, before, q);
     if p == 0 {
@@ -124,9 +124,9 @@ fn stage_length(
     q: usize,
 ) -> usize
     requires { ⌜ (p < q) × ((q ≤ length (now sets)) × (length (now sets) ≤ 32)) ⌝ }
-    requires { ⌜ now before ≡ M.upTo (now sets) ⌝ }
-    requires { ⌜ length (X.stageText head (now sets) (now grounds) (now rows) p q) < 2 ^ 63 ⌝ }
-    ensures { λ r. ⌜ r ≡ length (X.stageText head (now (sets .entry)) (now (grounds .entry)) (now (rows .entry)) p q) ⌝ }
+    requires { ⌜ now before ≡ M.upTo 33 (now sets) ⌝ }
+    requires { ⌜ length (X.stageText 64 head (now sets) (now grounds) (now rows) p q) < 2 ^ 63 ⌝ }
+    ensures { λ r. ⌜ r ≡ length (X.stageText 64 head (now (sets .entry)) (now (grounds .entry)) (now (rows .entry)) p q) ⌝ }
 {
     if p + 1 == q {
         return text::number_length(q as u8);
@@ -150,9 +150,9 @@ pub fn stages_length(
     n: usize,
 ) -> usize
     requires { ⌜ (0 < n) × ((n ≤ length (now sets)) × (length (now sets) ≤ 32)) ⌝ }
-    requires { ⌜ now before ≡ M.upTo (now sets) ⌝ }
-    requires { ⌜ length (X.stagesText head (now sets) (now grounds) (now rows) n) < 2 ^ 63 ⌝ }
-    ensures { λ r. ⌜ r ≡ length (X.stagesText head (now (sets .entry)) (now (grounds .entry)) (now (rows .entry)) n) ⌝ }
+    requires { ⌜ now before ≡ M.upTo 33 (now sets) ⌝ }
+    requires { ⌜ length (X.stagesText 64 head (now sets) (now grounds) (now rows) n) < 2 ^ 63 ⌝ }
+    ensures { λ r. ⌜ r ≡ length (X.stagesText 64 head (now (sets .entry)) (now (grounds .entry)) (now (rows .entry)) n) ⌝ }
 {
     let mut o: usize = 0;
     let mut q = n;

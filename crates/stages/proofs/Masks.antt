@@ -107,26 +107,26 @@ module _ (sets : List ℕ) (p : ℕ) where
 
 -- ---- the variables of goals 1 to g, for each g
 
-module _ (sets : List ℕ) where
+module _ (places : ℕ) (sets : List ℕ) where
   -- read as goal p, the variables before goal p
-  pub before-goal : (p : ℕ) → 0 < p → p ≤ length sets + 1 → length sets ≤ 32 → goal (upTo sets) p ≡ once sets 0 (p - 1)
+  pub before-goal : (p : ℕ) → 0 < p → p ≤ length sets + 1 → length sets < places → goal (upTo places sets) p ≡ once sets 0 (p - 1)
   unfolding goal upTo
-  before-goal p z h l = table-at 33 (length sets + 1) (λ g. once sets 0 g) (p - 1) (omega arith) (omega arith)
+  before-goal p z h l = table-at places (length sets + 1) (λ g. once sets 0 g) (p - 1) (omega arith) (omega arith)
 
-  pub before-next : (p : ℕ) → p ≤ length sets → length sets ≤ 32 → goal (upTo sets) (p + 1) ≡ once sets 0 p
+  pub before-next : (p : ℕ) → p ≤ length sets → length sets < places → goal (upTo places sets) (p + 1) ≡ once sets 0 p
   before-next p h l = let e : p + 1 - 1 ≡ p = omega arith in before-goal (p + 1) (omega arith) (omega arith) l ∙ ap (once sets 0) e
 
   -- filling the array
   abbrev pub filled : ℕ → List ℕ
-  filled k = table 33 k (λ g. once sets 0 g)
+  filled k = table places k (λ g. once sets 0 g)
 
-  pub upto-none : replicate 33 0 ≡ filled 0
-  upto-none = table-zero 33 (λ g. once sets 0 g)
+  pub upto-none : replicate places 0 ≡ filled 0
+  upto-none = table-zero places (λ g. once sets 0 g)
 
-  pub upto-more : (g : ℕ) (l : List ℕ) (v : ℕ) → g < 33 → l ≡ filled g → v ≡ once sets 0 g → set l g v ≡ filled (g + 1)
-  upto-more g l v h e q = table-more 33 g (λ g. once sets 0 g) l v h e q
+  pub upto-more : (g : ℕ) (l : List ℕ) (v : ℕ) → g < places → l ≡ filled g → v ≡ once sets 0 g → set l g v ≡ filled (g + 1)
+  upto-more g l v h e q = table-more places g (λ g. once sets 0 g) l v h e q
 
-  pub upto-all : (k : ℕ) → length sets < k → k ≤ length sets + 1 → filled k ≡ upTo sets
+  pub upto-all : (k : ℕ) → length sets < k → k ≤ length sets + 1 → filled k ≡ upTo places sets
   unfolding upTo
   upto-all k h l = let e : k ≡ length sets + 1 = omega arith in ap filled e
 

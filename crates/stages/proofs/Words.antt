@@ -152,16 +152,16 @@ module _ (c : Clause) (p q : ℕ) where
       let two = and-r (ltb x y && across (c .sets) p q x y && not (S x || S y)) (not (c .known (p + 1) x y || not (M x) || not (M y))) h in
       let both = and-l (ltb x y && across (c .sets) p q x y) (not (S x || S y)) one in
       let once = nor (S x) (S y) (and-r (ltb x y && across (c .sets) p q x y) (not (S x || S y)) one) in
-      let drop = nor (c .known (p + 1) x y || not (M x)) (not (M y)) two in
-      let drop2 = nor (c .known (p + 1) x y) (not (M x)) (ap not (drop .0)) in
+      let kept = nor (c .known (p + 1) x y || not (M x)) (not (M y)) two in
+      let kept-x = nor (c .known (p + 1) x y) (not (M x)) (ap not (kept .0)) in
       record {
         lower = ltb-true x y (and-l (ltb x y) (across (c .sets) p q x y) both);
         across = across-out (c .sets) p q x y (and-r (ltb x y) (across (c .sets) p q x y) both);
         x-once = λ t. false-not (S x) (once .0) (shared-in (c .sets) p q x t);
         y-once = λ t. false-not (S y) (once .1) (shared-in (c .sets) p q y t);
-        unknown = drop2 .0;
-        x-met = met-out (c .head) (c .sets) p x (not-false (M x) (drop2 .1));
-        y-met = met-out (c .head) (c .sets) p y (not-false (M y) (drop .1));
+        unknown = kept-x .0;
+        x-met = met-out (c .head) (c .sets) p x (not-false (M x) (kept-x .1));
+        y-met = met-out (c .head) (c .sets) p y (not-false (M y) (kept .1));
       }
 
   pub indep-in : (x y : ℕ) → Separate c p q x y → indepCheck c p q x y ≡ true

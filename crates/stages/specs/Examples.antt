@@ -14,16 +14,10 @@ pub record Example : Type 0 where
 
 abbrev pub examples : List Example
 examples =
-    -- Head {0,1}, goals {0,1}, {0,2}, {0}, {1,2}, no facts: the starred draft of 01, which is the example of 003: (ground(v0)=>1&2),(indep(v0,v1),indep(v0,v2)=>3&4)
-    record { clause = given 3 (3 ∷ 5 ∷ 1 ∷ 6 ∷ []) [] []; text = 40 ∷ 103 ∷ 114 ∷ 111 ∷ 117 ∷ 110 ∷ 100 ∷ 40 ∷ 118 ∷ 48 ∷ 41 ∷ 61 ∷ 62 ∷ 49 ∷ 38 ∷ 50 ∷ 41 ∷ 44 ∷ 40 ∷ 105 ∷ 110 ∷ 100 ∷ 101 ∷ 112 ∷ 40 ∷ 118 ∷ 48 ∷ 44 ∷ 118 ∷ 49 ∷ 41 ∷ 44 ∷ 105 ∷ 110 ∷ 100 ∷ 101 ∷ 112 ∷ 40 ∷ 118 ∷ 48 ∷ 44 ∷ 118 ∷ 50 ∷ 41 ∷ 61 ∷ 62 ∷ 51 ∷ 38 ∷ 52 ∷ 41 ∷ [] } ∷
-    -- Head {0}, ground {0}, goals {0}, {0}: starred in 01: (1&2)
-    record { clause = given 1 (1 ∷ 1 ∷ []) (1 ∷ 1 ∷ []) []; text = 40 ∷ 49 ∷ 38 ∷ 50 ∷ 41 ∷ [] } ∷
     -- Head {0,1}, goals {1}, {0}, no facts: the lower variable first, although it is in the later goal: (indep(v0,v1)=>1&2)
-    record { clause = given 3 (2 ∷ 1 ∷ []) [] []; text = 40 ∷ 105 ∷ 110 ∷ 100 ∷ 101 ∷ 112 ∷ 40 ∷ 118 ∷ 48 ∷ 44 ∷ 118 ∷ 49 ∷ 41 ∷ 61 ∷ 62 ∷ 49 ∷ 38 ∷ 50 ∷ 41 ∷ [] } ∷
+    record { clause = given 64 3 (2 ∷ 1 ∷ []) [] []; text = 40 ∷ 105 ∷ 110 ∷ 100 ∷ 101 ∷ 112 ∷ 40 ∷ 118 ∷ 48 ∷ 44 ∷ 118 ∷ 49 ∷ 41 ∷ 61 ∷ 62 ∷ 49 ∷ 38 ∷ 50 ∷ 41 ∷ [] } ∷
     -- The whole case of 01: head {0,1}, goals {0}, {1,2}, {0,2}, pairs 0 1 and 0 2: (1&2),3
-    record { clause = given 3 (1 ∷ 6 ∷ 5 ∷ []) [] (6 ∷ 1 ∷ 1 ∷ []); text = 40 ∷ 49 ∷ 38 ∷ 50 ∷ 41 ∷ 44 ∷ 51 ∷ [] } ∷
-    -- One goal: starred in 01: 1
-    record { clause = given 0 (0 ∷ []) [] []; text = 49 ∷ [] } ∷
+    record { clause = given 64 3 (1 ∷ 6 ∷ 5 ∷ []) [] (6 ∷ 1 ∷ 1 ∷ []); text = 40 ∷ 49 ∷ 38 ∷ 50 ∷ 41 ∷ 44 ∷ 51 ∷ [] } ∷
     []
 
 pub examples-hold : map (λ d. melText (d .clause)) examples ≡ map (λ d. d .text) examples

@@ -10,11 +10,11 @@ use Rattle.arrays.specs.Table.{table}
 use Rattle.sets.specs.Sets.{has, union, meet, without, below}
 use Rattle.stages.specs.Mel.{Clause, goal}
 
--- a clause with 64 variables: its ground sets as a list, one a goal, and its listed pairs as rows, the set of x's partners at place x
-unfoldable pub given : ℕ → List ℕ → List ℕ → List ℕ → Clause
-given head sets grounds rows =
+-- a clause with w variables: its ground sets as a list, one a goal, and its listed pairs as rows, the set of x's partners at place x
+unfoldable pub given : ℕ → ℕ → List ℕ → List ℕ → List ℕ → Clause
+given w head sets grounds rows =
     record {
-      width = 64;
+      width = w;
       head = head;
       sets = sets;
       ground = λ g. goal grounds g;
@@ -32,9 +32,9 @@ module _ (sets : List ℕ) (p : ℕ) where
   twice zero = 0
   twice (suc q) = let m = twice q in cond (ltb p (suc q)) (union m (meet (once q) (goal sets (suc q)))) m
 
--- at place g the variables of goals 1 to g, up to the last goal; 33 places
-unfoldable pub upTo : List ℕ → List ℕ
-upTo sets = table 33 (length sets + 1) (λ g. once sets 0 g)
+-- at place g the variables of goals 1 to g, up to the last goal, in an array of so many places
+unfoldable pub upTo : ℕ → List ℕ → List ℕ
+upTo places sets = table places (length sets + 1) (λ g. once sets 0 g)
 
 -- the set of the first of the goals p+1 to p+k that holds x, empty if none does
 unfoldable pub goalWithFrom : List ℕ → ℕ → ℕ → ℕ → ℕ
@@ -55,10 +55,10 @@ apart k row own x = without (without (without k row) own) (below (x + 1))
 unfoldable pub partners : List ℕ → ℕ → ℕ → ℕ → ℕ → ℕ → ℕ
 partners sets p q k row x = apart k row (goalWith sets p q x) x
 
--- s stands at each place of a set, and at the others what stood there
-unfoldable pub Noted : List ℕ → ℕ → ℕ → List ℕ → Type 0
-Noted old set s new = (x : ℕ) → x < 64 → getD new x 0 ≡ cond (has set x) s (getD old x 0)
+-- of w places, s stands at each place of the set m, and at the others what stood there
+unfoldable pub Noted : ℕ → List ℕ → ℕ → ℕ → List ℕ → Type 0
+Noted w old m s new = (x : ℕ) → x < w → getD new x 0 ≡ cond (has m x) s (getD old x 0)
 
--- for each x of k the set of its goal stands at place x
-unfoldable pub OwnGoals : List ℕ → ℕ → ℕ → ℕ → List ℕ → Type 0
-OwnGoals sets p q k own = (x : ℕ) → x < 64 → has k x ≡ true → getD own x 0 ≡ goalWith sets p q x
+-- for each x of k below w the set of its goal stands at place x
+unfoldable pub OwnGoals : ℕ → List ℕ → ℕ → ℕ → ℕ → List ℕ → Type 0
+OwnGoals w sets p q k own = (x : ℕ) → x < w → has k x ≡ true → getD own x 0 ≡ goalWith sets p q x

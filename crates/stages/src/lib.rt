@@ -19,28 +19,28 @@ pub fn goal(sets: &[u64], g: usize) -> u64
 
 // At place g the variables of goals 1 to g, up to the last goal.
 pub struct UpTo {
-    pub set: [u64; 33],
+    pub vars: [u64; 33],
 }
 
 pub fn up_to(sets: &[u64]) -> UpTo
     requires { ⌜ length (now sets) ≤ 32 ⌝ }
-    ensures { λ r. ⌜ r .set ≡ M.upTo (now (sets .entry)) ⌝ }
+    ensures { λ r. ⌜ r .vars ≡ M.upTo 33 (now (sets .entry)) ⌝ }
 {
-    let mut set = [0u64; 33];
+    let mut vars = [0u64; 33];
     let mut m = 0u64;
     let mut g: usize = 0;
     while g <= sets.len() {
-        set[g] = m;
+        vars[g] = m;
         g += 1;
         m = sets::union(m, goal(sets, g));
     }
-    UpTo { set }
+    UpTo { vars }
 }
 
 // The p of goals 1 to q, from q downward; `before` is what up_to gives, so that place p - 1, read as goal p, has the variables before goal p.
 pub fn start_of(head: u64, sets: &[u64], before: &[u64], q: usize) -> usize
     requires { ⌜ (q ≤ length (now sets)) × (length (now sets) ≤ 32) ⌝ }
-    requires { ⌜ now before ≡ M.upTo (now sets) ⌝ }
+    requires { ⌜ now before ≡ M.upTo 33 (now sets) ⌝ }
     ensures { λ r. ⌜ r ≡ W.start 64 head (now (sets .entry)) q ⌝ }
 {
     let mut after = 0u64;
@@ -80,12 +80,12 @@ pub fn counted(sets: &[u64], p: usize, q: usize) -> Seen
     Seen { once: m, twice: t }
 }
 
-// Stores s at each place of a set.
-fn note(own: &mut [u64], set: u64, s: u64)
+// Stores s at each place of the set m.
+fn note(own: &mut [u64], m: u64, s: u64)
     requires { ⌜ length (now own) ≡ 64 ⌝ }
-    ensures { λ r. ⌜ M.Noted (now (own .entry)) set s (now (own .exit)) ⌝ }
+    ensures { λ r. ⌜ M.Noted 64 (now (own .entry)) m s (now (own .exit)) ⌝ }
 {
-    let mut rest = set;
+    let mut rest = m;
     while rest != 0 {
         let x = sets::first(rest) as usize;
         own[x] = s;
@@ -97,7 +97,7 @@ fn note(own: &mut [u64], set: u64, s: u64)
 pub fn own_goals(own: &mut [u64], sets: &[u64], p: usize, q: usize, k: u64)
     requires { ⌜ (p ≤ q) × (q < 2 ^ 32) ⌝ }
     requires { ⌜ now own ≡ replicate 64 0 ⌝ }
-    ensures { λ r. ⌜ M.OwnGoals (now (sets .entry)) p q k (now (own .exit)) ⌝ }
+    ensures { λ r. ⌜ M.OwnGoals 64 (now (sets .entry)) p q k (now (own .exit)) ⌝ }
 {
     let mut g = q;
     while p < g {

@@ -12,11 +12,11 @@ use Rattle.reading.specs.Reading.{reading}
 use Rattle.fields.specs.Fields.{goalCount}
 use Rattle.record.proofs.WellFormed.{fine-well-formed}
 use Rattle.expression.specs.Expr.{Goals}
-use Rattle.expression.specs.Closure.{closed}
+use Rattle.graph.specs.Closure.{closed}
 use Rattle.expression.specs.Arrange.{formAny}
 use Rattle.expression.specs.Search.{firstN}
 use Rattle.expression.specs.Text.{text}
-use Rattle.expression.proofs.Closure.{closed-agree}
+use Rattle.graph.proofs.Closure.{closed-agree}
 use Rattle.order.specs.Order.{waits, before}
 use Rattle.order.proofs.Theorems.{before-order}
 use Rattle.form.specs.Form.{settled, plan}
@@ -28,7 +28,7 @@ use Rattle.starred.specs.Drafts.{annotates, melOf, room}
 
 module _ (b : List ℕ) (fine : reading b ≡ Fine) where
   -- of a record with the waits W
-  pub planned : (W : ℕ → ℕ → Bool) → rowsOf (goalCount b) (waits b) ≡ rowsOf (goalCount b) W
+  pub planned : (W : ℕ → ℕ → Bool) → rowsOf 32 (goalCount b) (waits b) ≡ rowsOf 32 (goalCount b) W
       → plan b ≡ settled (firstN (closed W (goalCount b)) (goalCount b)) (text (formAny (closed W (goalCount b)) (goalCount b)))
   unfolding before
   planned W e =
@@ -37,8 +37,8 @@ module _ (b : List ℕ) (fine : reading b ≡ Fine) where
       waits-agree : (i j : ℕ) → Goals (goalCount b) i → Goals (goalCount b) j → W i j ≡ waits b i j
       waits-agree i j p q =
           let h = fine-well-formed b fine .goals-to in
-          sym (rows-say (goalCount b) W i j h (p .0) (p .1) (q .0) (q .1)) ∙ ap (λ (r : List ℕ). ahead r i j) (sym e)
-          ∙ rows-say (goalCount b) (waits b) i j h (p .0) (p .1) (q .0) (q .1)
+          sym (rows-say 32 (goalCount b) W i j h (p .0) (p .1) (q .0) (q .1)) ∙ ap (λ (r : List ℕ). ahead r i j) (sym e)
+          ∙ rows-say 32 (goalCount b) (waits b) i j h (p .0) (p .1) (q .0) (q .1)
 
       agree : (i j : ℕ) → Goals (goalCount b) i → Goals (goalCount b) j → closed W (goalCount b) i j ≡ before b i j
       agree i j p q = closed-agree W (waits b) (goalCount b) waits-agree (goalCount b) (omega arith) i j p q

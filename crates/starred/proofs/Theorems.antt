@@ -14,7 +14,7 @@ use Rattle.fields.specs.Fields.{number, placeAfter, goalSet, listed, goalCount}
 use Rattle.reading.specs.Reading.{_must_else_place_, counts, header, firstBad, goal, goals, ordered, ascends, pair, pairs, ending, readingOf, versionOne, reading}
 use Rattle.judge.specs.Independence.{knownIndependent, independent}
 use Rattle.order.specs.Order.{waits, before}
-use Rattle.expression.specs.Closure.{closed}
+use Rattle.graph.specs.Closure.{closed}
 use Rattle.expression.specs.Arrange.{formAny}
 use Rattle.expression.specs.Search.{firstN}
 use Rattle.expression.specs.Text.{text}

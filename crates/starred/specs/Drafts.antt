@@ -56,7 +56,7 @@ asked ((a then c) ∷ l) i j = (eqb i a && eqb j c) || asked l i j
 -- the record b is accepted, and W are its waits
 pub record Has (b : List ℕ) (W : ℕ → ℕ → Bool) : Type 0 where
   pub fine : reading b ≡ Fine
-  pub rows : rowsOf (goalCount b) (waits b) ≡ rowsOf (goalCount b) W
+  pub rows : rowsOf 32 (goalCount b) (waits b) ≡ rowsOf 32 (goalCount b) W
 
 -- the variables of goal g: the wait k gives variable k to its two goals
 abbrev held : ℕ → ℕ → List Wait → ℕ

@@ -86,7 +86,7 @@ eqb-sym a b = ⊎-elim (λ t. t ∙ sym (eq-eqb b a (sym (eqb-true a b t)))) (λ
 -- ---- the loop
 pub record Scanned (n : ℕ) (s : List ℕ) (at met : ℕ) : Type 0 where
   pub list : List ℕ
-  pub met-is : (v : ℕ) → v ≤ 32 → has met v ≡ among v list
+  pub met-is : (v : ℕ) → v ≤ n → has met v ≡ among v list
   pub from : fault n [] (numbers s) ≡ fault n list (scan (drop at s) at none)
 
 pub scanned-start : (n : ℕ) (s : List ℕ) → Scanned n s 0 0
@@ -111,17 +111,17 @@ module _ (n : ℕ) (s : List ℕ) (at met : ℕ) (h : Scanned n s at met) where
     pub scanned-above : n < v → faultIn n s ≡ At at
     scanned-above a = ap spot (here ∙ ap (λ b. cond (b || among v (h .list)) (some at) (fault n (v ∷ h .list) (scan (drop (at + 2) s) (at + 2) none))) (lt-ltb n v a))
 
-    module _ (few : n ≤ 32) (le : v ≤ n) where
+    module _ (le : v ≤ n) where
       pub scanned-met : has met v ≡ true → faultIn n s ≡ At at
       scanned-met t =
-          ap spot (here ∙ ap₂ (λ b c. cond (b || c) (some at) (fault n (v ∷ h .list) (scan (drop (at + 2) s) (at + 2) none))) (le-ltb n v le) (sym (h .met-is v (omega arith)) ∙ t))
+          ap spot (here ∙ ap₂ (λ b c. cond (b || c) (some at) (fault n (v ∷ h .list) (scan (drop (at + 2) s) (at + 2) none))) (le-ltb n v le) (sym (h .met-is v le) ∙ t))
 
       pub scanned-more : has met v ≡ false → Scanned n s (at + 2) (union met (single v))
       scanned-more t =
           record {
             list = v ∷ h .list;
             met-is = λ u lu. has-union met (single v) u ∙ or-comm (has met u) (has (single v) u) ∙ ap₂ (λ b c. b || c) (power u) (h .met-is u lu);
-            from = here ∙ ap₂ (λ b c. cond (b || c) (some at) (fault n (v ∷ h .list) (scan (drop (at + 2) s) (at + 2) none))) (le-ltb n v le) (sym (h .met-is v (omega arith)) ∙ t);
+            from = here ∙ ap₂ (λ b c. cond (b || c) (some at) (fault n (v ∷ h .list) (scan (drop (at + 2) s) (at + 2) none))) (le-ltb n v le) (sym (h .met-is v le) ∙ t);
           }
         where
           power : (u : ℕ) → has (single v) u ≡ eqb u v

@@ -7,25 +7,23 @@ use mathlib.Core.Logic.{⊎-elim, dite}
 use Prim.Native.Nat.{ℕ, zero, suc, _^_, _<_, _≤_}
 use native.Mathlib.Omega.{arith}
 use native.Mathlib.Decide.{decLt}
-use lib.Dec.{eqb, ltb}
+use lib.Dec.{ltb}
 use lib.ListN.{length, getD, replicate, getD-replicate}
-use borrow.Author.Tests.{ne-eqb, eqb-false, leb-true, le-leb, lt-leb, lt-ltb, le-ltb, ltb-true}
-use Rattle.logic.proofs.Bools.{test, is-false, or-false}
+use borrow.Author.Tests.{leb-true, le-leb, lt-leb, lt-ltb, le-ltb, ltb-true}
+use Rattle.logic.proofs.Bools.{test, is-false}
 use Rattle.sets.specs.Sets.{has, subset, below}
 use Rattle.sets.proofs.Laws.{has-empty, has-below, member-below, none-empty, subset-has, has-subset}
 use Rattle.sets.proofs.Builder.{members-lt}
-use Rattle.graph.specs.Graph.{hasGoal, behind, goalsOf, rowsOf, Within, transposed}
+use Rattle.graph.specs.Graph.{hasGoal, behind, goalsOf, rowsOf, Within, transposed, Words}
 use Rattle.graph.proofs.Rows.{goals-ext, rows-ext, rows-within, transposed-turned}
 use Rattle.expression.specs.Search.{orElse}
 use Rattle.expression.specs.Expr.{Expr, times, stands, before, UsesOnce}
-use Rattle.expression.proofs.Spec.{stands-in, before-in}
-use Rattle.expression.proofs.Theorems.{uses-in}
-use Rattle.grammar.specs.Reader.{read}
+use Rattle.expression.proofs.Spec.{in-stands, before-in}
+use Rattle.grammar.specs.Reader.{accepted, read}
 use Rattle.grammar.specs.Numbers.{numbers, fault, missing, misuse}
 use Rattle.grammar.specs.Reading.{refusal, numbered, decided, readText}
 use Rattle.grammar.proofs.Decides.{read-accepts}
-use Rattle.grammar.proofs.Goals.{misuse-none}
-use Rattle.rows.specs.Rows.{Words}
+use Rattle.grammar.proofs.Goals.{count, values, count-goals, text-goals, fault-good, missing-none, none-missing, misuse-none}
 use Rattle.numbers.specs.declared.Node.{Node}
 use Rattle.numbers.specs.declared.Part.{Part}
 use Rattle.numbers.specs.declared.Part.the-variants.{Read as Done, Bad}
@@ -46,26 +44,13 @@ spot-some none p h = cc
 spot-some (some q) p h = let e : p ≡ q = cc in ap (λ z. some z) (sym e)
 
 -- ---- goals that are missing
-none-missing : (n : ℕ) (x : Expr) → ((i : ℕ) → i < n → stands x (suc i) ≡ true) → missing n x ≡ false
-none-missing zero x h = refl
-none-missing (suc n) x h =
-    let here : 1 ≤ times x (suc n) = leb-true 1 (times x (suc n)) (h n (omega arith)) in
-    ap₂ (λ a b. a || b) (ne-eqb (times x (suc n)) 0 (λ e. omega arith)) (none-missing n x (λ i l. h i (omega arith)))
-
-missing-none : (n : ℕ) (x : Expr) → missing n x ≡ false → (i : ℕ) → i < n → stands x (suc i) ≡ true
-missing-none zero x h i l = absurd (omega arith)
-missing-none (suc n) x h i l =
-    let p = or-false (eqb (times x (suc n)) 0) (missing n x) h in
-    dite (decLt i n) (λ b. missing-none n x (p .1) i b)
-    (λ b. let e : suc n ≡ suc i = omega arith in subst (λ z. stands x z ≡ true) e (le-leb 1 (times x (suc n)) (pos (times x (suc n)) (eqb-false (times x (suc n)) 0 (p .0)))))
-  where
-    pos : (m : ℕ) → (m ≡ 0 → ⊥) → 1 ≤ m
-    pos zero n = absurd (n refl)
-    pos (suc m) n = omega arith
-
-module _ (n : ℕ) (x : Expr) (set : ℕ) (few : n ≤ 32) (told : (i : ℕ) → i < 32 → has set i ≡ stands x (suc i)) where
+module _ (w n : ℕ) (x : Expr) (set : ℕ) (few : n ≤ w) (told : (i : ℕ) → i < w → has set i ≡ stands x (suc i)) where
   all-there : subset (below n) set ≡ true → missing n x ≡ false
-  all-there h = none-missing n x (λ i l. sym (told i (omega arith)) ∙ subset-has (below n) set h i (has-below n i ∙ lt-ltb i n l))
+  all-there h = none-missing n x (λ i. at i)
+    where
+      at : (i : ℕ) → 1 ≤ i → i ≤ n → 1 ≤ times x i
+      at zero a b = absurd (omega arith)
+      at (suc i) a b = leb-true 1 (times x (suc i)) (sym (told i (omega arith)) ∙ subset-has (below n) set h i (has-below n i ∙ lt-ltb i n (omega arith)))
 
   some-lack : subset (below n) set ≡ false → missing n x ≡ true
   some-lack h = ⊎-elim (λ t. t) (λ t. absurd (true≢false (sym (whole t) ∙ h))) (test (missing n x))
@@ -74,12 +59,12 @@ module _ (n : ℕ) (x : Expr) (set : ℕ) (few : n ≤ 32) (told : (i : ℕ) →
       whole t =
           has-subset (below n) set (λ i e.
           let l = ltb-true i n (sym (has-below n i) ∙ e) in
-          told i (omega arith) ∙ missing-none n x t i l)
+          told i (omega arith) ∙ le-leb 1 (times x (suc i)) (missing-none n x t (suc i) (omega arith) (omega arith)))
 
 -- ---- each goal stands once: nothing is at fault
-module _ (n : ℕ) (few : n ≤ 32) (s : List ℕ) (set extra : ℕ) (h : Counted s set extra) (z : extra ≡ 0) (e : set ≡ below n) where
+module _ (w n : ℕ) (few : n ≤ w) (s : List ℕ) (set extra : ℕ) (h : Counted w s set extra) (z : extra ≡ 0) (e : set ≡ below n) where
   member : (i : ℕ) → has set i ≡ ltb i n
-  member i = ap (λ w. has w i) e ∙ has-below n i
+  member i = ap (λ z. has z i) e ∙ has-below n i
 
   uses : UsesOnce n (h .0)
   uses zero = let l = h .3 z zero in omega arith
@@ -103,28 +88,31 @@ module _ (n : ℕ) (few : n ≤ 32) (s : List ℕ) (set extra : ℕ) (h : Counte
   fault-none =
       sym (ap spot (first-none (fault n [] (numbers s)) (cond (missing n (h .0)) (some (length s)) none) (misuse-none 32 n s (h .0) (read-accepts 32 s (h .0) .0 (h .1)) .1 uses)))
 
--- ---- the graph and the set of an expression that uses each goal once
-module _ (n : ℕ) (x : Expr) (set : ℕ) (now : List ℕ) (few : n ≤ 32) (uses : UsesOnce n x) (small : set < 2 ^ 32)
-    (stand : (i : ℕ) → i < 32 → has set i ≡ stands x (suc i)) (order : (i j : ℕ) → i < 32 → j < 32 → behind now (suc i) (suc j) ≡ before x (suc i) (suc j)) (words : Words now) where
-  goal-in : (i : ℕ) → stands x (suc i) ≡ true → i < n
-  goal-in i h = omega (arith, uses-in n x uses (suc i) (stands-in x (suc i) h) .1)
+-- ---- nothing is at fault: no number is above n
+low : (n : ℕ) (s : List ℕ) (x : Expr) → read 32 s ≡ accepted x → fault n [] (numbers s) ≡ none → (v : ℕ) → stands x v ≡ true → v ≤ n
+low n s x q f v h =
+    let same : count (values (numbers s)) v ≡ times x v = ap (λ z. count z v) (text-goals 32 s x (read-accepts 32 s x .0 q)) ∙ count-goals x v in
+    fault-good n [] (numbers s) f v (omega (arith, leb-true 1 (times x v) h)) .0
 
+-- ---- the graph and the set of an expression that has no number above n
+module _ (w n : ℕ) (x : Expr) (set : ℕ) (now : List ℕ) (few : n ≤ w) (most : (v : ℕ) → stands x v ≡ true → v ≤ n) (small : set < 2 ^ w)
+    (stand : (i : ℕ) → i < w → has set i ≡ stands x (suc i)) (order : (i j : ℕ) → i < w → j < w → behind now (suc i) (suc j) ≡ before x (suc i) (suc j)) (words : Words w now) where
   met-is : set ≡ goalsOf n (stands x)
-  met-is = goals-ext n set (stands x) (members-lt n set (λ i e. goal-in i (sym (stand i (member-below 32 set i small e)) ∙ e))) (λ g. at g)
+  met-is = goals-ext n set (stands x) (members-lt n set (λ i e. omega (arith, most (suc i) (sym (stand i (member-below w set i small e)) ∙ e)))) (λ g. at g)
     where
       at : (g : ℕ) → 1 ≤ g → g ≤ n → hasGoal set g ≡ stands x g
       at zero a b = absurd (omega arith)
       at (suc i) a b = stand i (omega arith)
 
   -- a bit of a row is an order of two goals
-  edge : (j i : ℕ) → j < 32 → has (getD now j 0) i ≡ true → (j < n) × (i < n)
+  edge : (j i : ℕ) → j < w → has (getD now j 0) i ≡ true → (j < n) × (i < n)
   edge j i l h =
-      let b = before-in x (suc i) (suc j) (sym (order i j (member-below 32 (getD now j 0) i (words .small j) h) l) ∙ h) in
-      (omega (arith, uses-in n x uses (suc j) (b .1) .1), omega (arith, uses-in n x uses (suc i) (b .0) .1))
+      let b = before-in x (suc i) (suc j) (sym (order i j (member-below w (getD now j 0) i (words .small j) h) l) ∙ h) in
+      (omega (arith, most (suc j) (in-stands x (suc j) (b .1))), omega (arith, most (suc i) (in-stands x (suc i) (b .0))))
 
-  turned-are : now ≡ rowsOf n (λ j i. before x i j)
+  turned-are : now ≡ rowsOf w n (λ j i. before x i j)
   turned-are =
-      rows-ext n (λ j i. before x i j) now few (words .size) (λ j l. members-lt n (getD now j 0) (λ i e. edge j i (omega arith) e .1)) (λ j i. at j i)
+      rows-ext w n (λ j i. before x i j) now few (words .size) (λ j l. members-lt n (getD now j 0) (λ i e. edge j i (omega arith) e .1)) (λ j i. at j i)
       (λ j l p. none-empty (getD now j 0) (λ i. is-false (has (getD now j 0) i) (λ e. absurd (omega (arith, p, edge j i l e .0)))))
     where
       at : (j i : ℕ) → 1 ≤ j → j ≤ n → 1 ≤ i → i ≤ n → behind now i j ≡ before x i j
@@ -132,11 +120,11 @@ module _ (n : ℕ) (x : Expr) (set : ℕ) (now : List ℕ) (few : n ≤ 32) (use
       at (suc j) zero a b c d = absurd (omega arith)
       at (suc j) (suc i) a b c d = order i j (omega arith) (omega arith)
 
-  turned-within : Within n now
-  turned-within = subst (Within n) (sym turned-are) (rows-within n (λ j i. before x i j) few)
+  turned-within : Within w n now
+  turned-within = subst (Within w n) (sym turned-are) (rows-within w n (λ j i. before x i j) few)
 
-  rows-are : transposed n now ≡ rowsOf n (before x)
-  rows-are = transposed-turned n (before x) now few turned-are
+  rows-are : transposed w n now ≡ rowsOf w n (before x)
+  rows-are = transposed-turned w n (before x) now few turned-are
 
 module _ (n : ℕ) (s : List ℕ) where
   pub text-short : length s < 1 → refusal 15 0 ≡ readText n s
@@ -152,18 +140,18 @@ module _ (n : ℕ) (s : List ℕ) where
     unfolding readText
     sized = rw (le-leb 1 (length s) lo, le-leb (length s) 512 hi)
 
-    module _ (r : Part) (now : List ℕ) (h : Parsed s (replicate 32 0) r now) where
+    module _ (r : Part) (now : List ℕ) (h : Parsed 32 s (replicate 32 0) r now) where
       pub text-bad : (p : ℕ) → r ≡ Bad p → refusal 16 p ≡ readText n s
-      text-bad p e = sym (sized ∙ ap (λ z. decided n s z) ((subst (λ z. Parsed s (replicate 32 0) z now) e h) .0))
+      text-bad p e = sym (sized ∙ ap (λ z. decided n s z) ((subst (λ z. Parsed 32 s (replicate 32 0) z now) e h) .0))
 
       module _ (nd : Node) (q : r ≡ Done nd) where
-        parsed : Parsed s (replicate 32 0) (Done nd) now
-        parsed = subst (λ z. Parsed s (replicate 32 0) z now) q h
+        parsed : Parsed 32 s (replicate 32 0) (Done nd) now
+        parsed = subst (λ z. Parsed 32 s (replicate 32 0) z now) q h
 
         reads : readText n s ≡ numbered (parsed .0) (misuse n s (parsed .0))
         reads = sized ∙ ap (λ z. decided n s z) (parsed .1)
 
-        pub counted : Counted s (nd .set) (nd .extra)
+        pub counted : Counted 32 s (nd .set) (nd .extra)
         counted = (parsed .0, parsed .1, parsed .3 .stand, parsed .3 .once)
 
         pub text-fault : (v : Spot) (p : ℕ) → v ≡ faultIn n s → v ≡ At p → refusal 17 p ≡ readText n s
@@ -177,28 +165,25 @@ module _ (n : ℕ) (s : List ℕ) where
 
           pub text-lacks : subset (below n) (nd .set) ≡ false → refusal 17 (length s) ≡ readText n s
           text-lacks l =
-              sym (reads ∙ ap (λ o. numbered (parsed .0) o) (misused true (some-lack n (parsed .0) (nd .set) few (parsed .3 .stand) l)))
+              sym (reads ∙ ap (λ o. numbered (parsed .0) o) (misused true (some-lack 32 n (parsed .0) (nd .set) few (parsed .3 .stand) l)))
 
-          module _ (l : subset (below n) (nd .set) ≡ true) (small : nd .set < 2 ^ 32) where
-            right : misuse n s (parsed .0) ≡ none
-            right = misused false (all-there n (parsed .0) (nd .set) few (parsed .3 .stand) l)
-
-            uses-once : UsesOnce n (parsed .0)
-            uses-once = misuse-none 32 n s (parsed .0) (read-accepts 32 s (parsed .0) .0 (parsed .1)) .0 right
+          module _ (small : nd .set < 2 ^ 32) where
+            most : (v : ℕ) → stands (parsed .0) v ≡ true → v ≤ n
+            most v e = low n s (parsed .0) (parsed .1) (spot-none (fault n [] (numbers s)) (sym g ∙ f)) v e
 
             order : (i j : ℕ) → i < 32 → j < 32 → behind now (suc i) (suc j) ≡ before (parsed .0) (suc i) (suc j)
             order i j a b =
                 parsed .3 .order i j a b ∙ ap (λ z. z || before (parsed .0) (suc i) (suc j)) (ap (λ z. has z i) (getD-replicate 32 j 0 0 b) ∙ has-empty i)
 
             -- the rows are turned round
-            pub text-within : Within n now
-            text-within = turned-within n (parsed .0) (nd .set) now few uses-once small (parsed .3 .stand) order (parsed .3 .words)
+            pub text-within : Within 32 n now
+            text-within = turned-within 32 n (parsed .0) (nd .set) now few most small (parsed .3 .stand) order (parsed .3 .words)
 
-            pub text-done : (rows : List ℕ) → rows ≡ transposed n now
+            pub text-done : subset (below n) (nd .set) ≡ true → (rows : List ℕ) → rows ≡ transposed 32 n now
                 → _≡_ {A = TextAnswer} (record { outcome = Read; graph = record { n = n; rows = rows }; met = nd .set }) (textAnswer n (readText n s))
-            text-done rows e =
+            text-done l rows e =
                 let w = parsed .3 .words in
                 ap₂ (λ a b. record { outcome = Read; graph = record { n = n; rows = a }; met = b })
-                (e ∙ rows-are n (parsed .0) (nd .set) now few uses-once small (parsed .3 .stand) order w)
-                (met-is n (parsed .0) (nd .set) now few uses-once small (parsed .3 .stand) order w)
-                ∙ sym (ap (λ z. textAnswer n z) (reads ∙ ap (λ o. numbered (parsed .0) o) right))
+                (e ∙ rows-are 32 n (parsed .0) (nd .set) now few most small (parsed .3 .stand) order w)
+                (met-is 32 n (parsed .0) (nd .set) now few most small (parsed .3 .stand) order w)
+                ∙ sym (ap (λ z. textAnswer n z) (reads ∙ ap (λ o. numbered (parsed .0) o) (misused false (all-there 32 n (parsed .0) (nd .set) few (parsed .3 .stand) l))))

@@ -38,10 +38,10 @@ spot (some p) = At p
 abbrev pub faultIn : ℕ → List ℕ → Spot
 faultIn n s = spot (Numbers.fault n [] (numbers s))
 
--- the set tells the numbers up to 32 of a text's expression, and a word of 0 that they stand in it once and no other does
-abbrev pub Counted : List ℕ → ℕ → ℕ → Type 0
-Counted s set extra =
-    (x : Expr) × (read 32 s ≡ accepted x) × ((i : ℕ) → i < 32 → has set i ≡ stands x (suc i)) × (extra ≡ 0 → (v : ℕ) → times x v ≤ bit set v)
+-- the set tells the numbers up to w of a text's expression, and a word of 0 that they stand in it once and no other does
+abbrev pub Counted : ℕ → List ℕ → ℕ → ℕ → Type 0
+Counted w s set extra =
+    (x : Expr) × (read 32 s ≡ accepted x) × ((i : ℕ) → i < w → has set i ≡ stands x (suc i)) × (extra ≡ 0 → (v : ℕ) → times x v ≤ bit set v)
 
 -- "A refusal returns its number and a place, every other field zero"
 abbrev pub turned : ℕ → ℕ → TextAnswer

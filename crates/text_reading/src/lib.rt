@@ -78,7 +78,7 @@ fn fault(text: &[u8], n: usize) -> Spot
 
 // The same, from the set and the word that the node of a whole text has: it is scanned only if they do not show that each goal stands in it once.
 fn fault_of(text: &[u8], n: usize, set: u32, extra: u32) -> Spot
-    requires { ⌜ (n ≤ 32) × Counted (now text) set extra ⌝ }
+    requires { ⌜ (n ≤ 32) × Counted 32 (now text) set extra ⌝ }
     ensures { λ r. ⌜ r ≡ faultIn n (now (text .entry)) ⌝ }
 {
     if extra == 0 {
@@ -124,8 +124,9 @@ pub fn read_text(text: &[u8], n: usize) -> TextAnswer
                 Spot::Nowhere => {
                     if sets::subset32(sets::below32(n), met) {
                         let outcome = Outcome::Read;
+                        let mut graph = Graph::empty(n);
                         let rows = graph::transposed(&prior, n);
-                        let graph = Graph { n, rows };
+                        graph.rows = rows;
                         TextAnswer {
                             outcome,
                             graph,

@@ -1,4 +1,5 @@
-// Reads lines `GOALS TEXT` from standard input, the text in hexadecimal, and prints what reading each text gives: `read`, or `refused NUMBER PLACE`.
+// Reads lines `GOALS TEXT` from standard input, the text in hexadecimal, and prints what reading each text gives: `read`, or `refused NUMBER PLACE`; `no case` if there is no line.
+use graph::Graph;
 use libc::STDIN_FILENO;
 use libc::STDOUT_FILENO;
 use text_reading::Outcome;
@@ -31,7 +32,7 @@ fn run_line(line: &[u8]) {
     let mut text = [0u8; 1024];
     let n = cases::number(cases::field(line, 0)) as usize;
     let len = cases::bytes(cases::field(line, 1), &mut text);
-    if n <= 32 {
+    if n <= Graph::MAX {
         if len <= 1024 {
             print_text(&text[..len], n);
         }
@@ -50,5 +51,8 @@ fn run_all(s: &[u8]) {
 fn main() {
     let mut lines = io::large_buffer();
     let n = io::read_full(STDIN_FILENO, &mut lines);
+    if n == 0 {
+        io::write_all(STDOUT_FILENO, b"no case\n");
+    }
     run_all(&lines[..n]);
 }

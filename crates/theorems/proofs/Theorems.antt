@@ -3,6 +3,7 @@
 --     T8            form-says-same, others-differ: the form's text is checked "same", the text of every other house form "differs"; same-text
 --     T9            order-graph, order-chains, order-rises, order-closed: the order operation gives the order of the chains of waits
 --     T10           mel-partition, mel-stages, mel-ground, mel-indep, mel-ascending, mel-short, mel-written: writing MEL
+--     T12           check-says, its five equivalences check-15 to check-differs, answer-says: the check of an expression, in `Check.antt`
 --     document 003  published-decides, published-text: figure 1 decides as the operation does, and section 3.2 gives its text
 --     goal text     calls-agree: the part is the one that the other call names
 use mathlib.Core.Path.{_≡_, refl, sym, ap, _∙_, subst}
@@ -19,13 +20,13 @@ use Rattle.graph.specs.declared.Graph.{Graph}
 use Rattle.graph.proofs.Rows.{rows-say}
 use Rattle.reading.specs.declared.Reading.{Reading}
 use Rattle.reading.specs.declared.Reading.the-variants.{Fine}
-use Rattle.record.specs.Fields.{goalCount}
-use Rattle.record.specs.Reading.{reading}
+use Rattle.fields.specs.Fields.{goalCount}
+use Rattle.reading.specs.Reading.{reading}
 use Rattle.record.specs.WellFormed.{WellFormed}
 use Rattle.record.proofs.WellFormed.{well-formed-fine}
 use Rattle.expression.specs.Expr as E
 use Rattle.expression.specs.Expr.{Expr, Goals, UsesOnce, House, HouseForm, Order}
-use Rattle.expression.specs.Closure.{closed}
+use Rattle.graph.specs.Closure.{closed}
 use Rattle.expression.specs.Form.{form}
 use Rattle.expression.specs.Restore.{restore}
 use Rattle.expression.specs.Search.{Four, firstN}
@@ -54,6 +55,7 @@ use Rattle.annotator.specs.declared.TextAnswer.{TextAnswer}
 use Rattle.annotator.specs.Answers.{afterReading, orderGraph, TextValues, textValues, goalText, saying, ruled, check}
 use Rattle.annotator.specs.Part.{PartAt}
 use Rattle.annotator.proofs.Checks.{check-fine}
+pub use Rattle.theorems.proofs.Check.{check-says, check-15, check-16, check-17, check-same, check-differs, answer-says}
 
 -- what is settled as a text
 settled-text : (o : Option Four) (u t : List ℕ) → settled o u ≡ written t → (o ≡ none) × (u ≡ t)
@@ -130,7 +132,7 @@ module _ (b : List ℕ) (w : WellFormed b) where
   pub order-chains : (i j : ℕ) → Goals n i → Goals n j → (ahead (orderGraph b .rows) i j ≡ true) ↔ O.Before b i j
   order-chains i j p q =
       let e : ahead (orderGraph b .rows) i j ≡ R i j =
-      ap (λ (g : Graph). ahead (g .rows) i j) order-graph ∙ rows-say n R i j (w .goals-to) (p .0) (p .1) (q .0) (q .1) in
+      ap (λ (g : Graph). ahead (g .rows) i j) order-graph ∙ rows-say 32 n R i j (w .goals-to) (p .0) (p .1) (q .0) (q .1) in
       (λ t. before-is b i j .0 (sym e ∙ t), λ c. e ∙ before-is b i j .1 c)
 
   -- a strict order that goes from lower goals to higher ones,
@@ -195,5 +197,5 @@ module _ (b : List ℕ) (w : WellFormed b) where
 
 -- ---- Goal text: for any bytes and any number the part handed out is the one whose place and length the other call gives.
 pub calls-agree : (s r : RefT (List ℕ)) (g : ℕ) (a : TextAnswer) → textValues a ≡ goalText (s .now) g
-    → PartAt s (goalText (s .now) g .start) (goalText (s .now) g .length) r → PartAt s (textValues a .start) (textValues a .length) r
-calls-agree s r g a e p = subst (λ (v : TextValues). PartAt s (v .start) (v .length) r) (sym e) p
+    → PartAt s (goalText (s .now) g .start) (goalText (s .now) g .size) r → PartAt s (textValues a .start) (textValues a .size) r
+calls-agree s r g a e p = subst (λ (v : TextValues). PartAt s (v .start) (v .size) r) (sym e) p

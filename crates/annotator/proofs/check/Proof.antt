@@ -22,7 +22,7 @@ check-text-requires : tie.Need-check-text-requires
 check-text-requires c κs =
     let t = c .before .before in
     let r = t .before .before .read .ensures in
-    (accepted _ (r .0) (t .enum-told .given .1) .goals-to, r .1 (t .enum-told .given .1))
+    (accepted _ (r .0) (t .enum-told .given .1) .goals-to, r .1 .0 (t .enum-told .given .1))
 
 returns : tie.Need-returns
 returns c = check-refused _ _ _ (c .before .before .before .read .ensures .0) (c .before .r .given .1)

@@ -1,6 +1,4 @@
-use mathlib.Core.Path.{ap, _∙_}
 use native.Mathlib.Omega.{arith}
-use Rattle.annotator.specs.Answers.{goalText}
 use Rattle.annotator.proofs.Answers.{accepted, tested, in-range, text-at, text-refused, text-outside}
 use borrow.Author.Needs.{needs}
 use Rattle.annotator.proofs.find_text.Statement.{statement}
@@ -9,7 +7,6 @@ use Rattle.annotator.proofs.find_text.Reads as reads
 use Rattle.annotator.proofs.find_text.Lts as lts
 use Rattle.annotator.proofs.goal_count.Reads as goal-count-reads
 use Rattle.annotator.proofs.inside.Reads as inside-reads
-use Rattle.annotator.proofs.number_of.Reads as number-of-reads
 use Rattle.fields.proofs.goal_place.Reads as goal-place-reads
 use Rattle.fields.proofs.text_at.Reads as text-at-reads
 use Rattle.fields.proofs.text_length_at.Reads as text-length-at-reads
@@ -24,9 +21,6 @@ enum-known-r c = search needs
 enum-told : tie.Need-enum-told
 enum-told c = search needs
 
-number-of-requires : tie.Need-number-of-requires
-number-of-requires c κs = search needs
-
 goal-count-requires : tie.Need-goal-count-requires
 goal-count-requires c κs = search needs
 
@@ -35,9 +29,11 @@ inside-requires c κs = search needs
 
 goal-place-requires : tie.Need-goal-place-requires
 goal-place-requires c κs =
-    let b = c .before .before .before .before .before .before .before .before .args .bytes .now in
-    let g = c .before .before .before .number-of .result in
-    in-range b g (accepted b (c .before .before .before .before .before .before .read .ensures) (c .before .before .before .before .enum-told .given .1)) (tested b g (c .before .inside .ensures) (c .if1 .taken) (c .before .before .goal-count .ensures))
+    let b = c .before .before .before .before .before .before .before .args .bytes .now in
+    let g = c .before .before .before .before .before .before .before .args .goal in
+    let w = accepted b (c .before .before .before .before .before .read .ensures) (c .before .before .before .enum-told .given .1) in
+    let r = in-range b g w (tested b g (c .before .inside .ensures) (c .if1 .taken) (c .before .before .goal-count .ensures)) in
+    (omega arith, omega arith)
 
 text-at-requires : tie.Need-text-at-requires
 text-at-requires c κs = omega (arith, c .goal-place .ensures .1)
@@ -47,20 +43,18 @@ text-length-at-requires c κs = omega (arith, c .before .goal-place .ensures .1)
 
 returns : tie.Need-returns
 returns c =
-    let b = c .before .before .before .before .before .before .before .before .before .before .before .args .bytes .now in
-    let g = c .before .before .before .before .before .before .number-of .result in
-    text-at b g (c .before .before .before .before .before .before .before .before .before .read .ensures) (c .before .before .before .before .before .before .before .enum-told .given .1) (tested b g (c .before .before .before .before .inside .ensures) (c .before .before .before .if1 .taken) (c .before .before .before .before .before .goal-count .ensures)) (c .before .before .goal-place .ensures .0) (c .before .text-at .ensures) (c .text-length-at .ensures .0)
-    ∙ ap (goalText b) (c .before .before .before .before .before .before .number-of .ensures)
+    let b = c .before .before .before .before .before .before .before .before .before .before .args .bytes .now in
+    let g = c .before .before .before .before .before .before .before .before .before .before .args .goal in
+    text-at b g (c .before .before .before .before .before .before .before .before .read .ensures) (c .before .before .before .before .before .before .enum-told .given .1) (tested b g (c .before .before .before .before .inside .ensures) (c .before .before .before .if1 .taken) (c .before .before .before .before .before .goal-count .ensures)) (c .before .before .goal-place .ensures .0) (c .before .text-at .ensures) (c .text-length-at .ensures .0)
 
 returns-2 : tie.Need-returns-2
 returns-2 c = text-refused _ _ _ (c .before .before .before .read .ensures) (c .before .r .given .1)
 
 returns-3 : tie.Need-returns-3
 returns-3 c =
-    let b = c .before .before .before .before .before .before .before .before .args .bytes .now in
-    let g = c .before .before .before .number-of .result in
-    text-outside b g (c .before .before .before .before .before .before .read .ensures) (c .before .before .before .before .enum-told .given .1) (tested b g (c .before .inside .ensures) (c .if1 .left) (c .before .before .goal-count .ensures))
-    ∙ ap (goalText b) (c .before .before .before .number-of .ensures)
+    let b = c .before .before .before .before .before .before .before .args .bytes .now in
+    let g = c .before .before .before .before .before .before .before .args .goal in
+    text-outside b g (c .before .before .before .before .before .read .ensures) (c .before .before .before .enum-told .given .1) (tested b g (c .before .inside .ensures) (c .if1 .left) (c .before .before .goal-count .ensures))
 
 pub find-text-spec : {M : Type 1} → statement M
 find-text-spec =
@@ -69,7 +63,6 @@ find-text-spec =
     read-requires
     enum-known-r
     enum-told
-    number-of-requires
     goal-count-requires
     inside-requires
     goal-place-requires

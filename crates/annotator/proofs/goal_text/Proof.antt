@@ -51,7 +51,7 @@ returns c =
     let a = c .before .before .before .before .before .before .before .args in
     let s = c .before .before .before .s .given .0 .0 in
     let e = span-is (a .bytes .now) (a .goal) s (c .before .before .before .before .before .find-text .ensures) (c .before .before .before .s .given .1) in
-    let n : (s .place + s .length) - s .place ≡ s .length = omega arith in
+    let n : (s .place + s .size) - s .place ≡ s .size = omega arith in
     record { block = refl; offset = omega (arith, e .0); bytes = ap₂ (λ (k l : ℕ). take k (drop l (a .bytes .now))) (n ∙ e .1) (e .0) }
 
 returns-2 : tie.Need-returns-2

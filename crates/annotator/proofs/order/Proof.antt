@@ -22,7 +22,7 @@ order-of-requires : tie.Need-order-of-requires
 order-of-requires c κs =
     let t = c .before .before .before in
     let r = t .before .before .read .ensures in
-    (accepted _ (r .0) (t .enum-told .given .1) .goals-to, r .1 (t .enum-told .given .1))
+    (accepted _ (r .0) (t .enum-told .given .1) .goals-to, r .1 .0 (t .enum-told .given .1))
 
 enum-known-r : tie.Need-enum-known-r
 enum-known-r c = search needs

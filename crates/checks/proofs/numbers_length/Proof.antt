@@ -34,7 +34,7 @@ add-result-2 : tie.Need-add-result-2
 add-result-2 c = omega (arith, small (c .before .before .args .each) (c .before .count .result) (omega arith) (omega arith))
 
 returns : tie.Need-returns
-returns c = rw (c .before .count .ensures, c .count2 .ensures) (numbers-length _ _ (search needs))
+returns c = rw (c .before .count .ensures, c .count2 .ensures) (numbers-length _ 64 _ (search needs))
 
 pub numbers-length-spec : {M : Type 1} → statement M
 numbers-length-spec =

@@ -8,7 +8,7 @@ use Rattle.checks.proofs.pairs_length.Statement.{statement}
 use Rattle.checks.proofs.pairs_length.Tie as tie
 
 returns : tie.Need-returns
-returns c = ap length (pairs-none _ _ _ _ _ (c .if1 .taken))
+returns c = ap length (pairs-none 64 _ _ _ _ _ (c .if1 .taken))
 
 slice-aggregate-own-goals : tie.Need-slice-aggregate-own-goals
 slice-aggregate-own-goals c = search needs
@@ -20,10 +20,10 @@ slice-aggregate-rows-length : tie.Need-slice-aggregate-rows-length
 slice-aggregate-rows-length c = search needs
 
 rows-length-requires : tie.Need-rows-length-requires
-rows-length-requires c κs = let a = c .before .before .before .before .before .before .before .args in omega (arith, ap length (own-rows (now (a .sets)) (now (a .rows)) (a .p) (a .q) (a .k) _ (c .before .before .own-goals .ensures)))
+rows-length-requires c κs = let a = c .before .before .before .before .before .before .before .args in omega (arith, ap length (own-rows 64 (now (a .sets)) (now (a .rows)) (a .p) (a .q) (a .k) _ (c .before .before .own-goals .ensures)))
 
 returns-2 : tie.Need-returns-2
-returns-2 c = c .rows-length .ensures ∙ ap length (own-rows _ _ _ _ _ _ (c .before .before .before .own-goals .ensures))
+returns-2 c = c .rows-length .ensures ∙ ap length (own-rows 64 _ _ _ _ _ _ (c .before .before .before .own-goals .ensures))
 
 pub pairs-length-spec : {M : Type 1} → statement M
 pairs-length-spec =

@@ -14,16 +14,16 @@ use Rattle.checks.proofs.put_grounds.Statement.{statement}
 use Rattle.checks.proofs.put_grounds.Tie as tie
 
 abbrev Inv-loop : tie.InvT-loop
-Inv-loop out₀ at set o₀ rest₀ out o rest = (rest < 2 ^ 64) × Left (X.groundsText rest) (X.groundsText set) at out₀ o out
+Inv-loop out₀ at m o₀ rest₀ out o rest = (rest < 2 ^ 64) × Left (X.groundsText 64 rest) (X.groundsText 64 m) at out₀ o out
 
 abbrev μ-loop : tie.MeasureT-loop
-μ-loop out₀ at set o₀ rest₀ out o rest = length (members 64 rest)
+μ-loop out₀ at m o₀ rest₀ out o rest = length (members 64 rest)
 
 -- what a turn writes, and what it leaves
 turn : (c : tie.After-first Inv-loop μ-loop) →
     let l = c .before .before .loop in
-    X.groundsText (l .rest) ≡ X.item (W.Ground (c .first .result)) ++ X.groundsText (without (l .rest) (single (first 64 (l .rest))))
-turn c = rw (c .first .ensures) (grounds-step _ (c .before .before .loop .inv .0) (c .before .loop-test .taken))
+    X.groundsText 64 (l .rest) ≡ X.item (W.Ground (c .first .result)) ++ X.groundsText 64 (without (l .rest) (single (first 64 (l .rest))))
+turn c = rw (c .first .ensures) (grounds-step 64 _ (c .before .before .loop .inv .0) (c .before .loop-test .taken))
 
 small : (c : tie.After-first Inv-loop μ-loop) → c .first .result < 64
 small c = rw (c .first .ensures) (first-in 64 _ (c .before .before .loop .inv .0) (c .before .loop-test .taken))
@@ -53,7 +53,7 @@ same-length : tie.Need-same-length Inv-loop μ-loop
 same-length c = left-kept (c .before .loop .inv .1)
 
 returns : tie.Need-returns Inv-loop μ-loop
-returns c = done (c .before .loop .inv .1) (grounds-end _ (c .loop-test .left))
+returns c = done (c .before .loop .inv .1) (grounds-end 64 _ (c .loop-test .left))
 
 pub put-grounds-spec : {M : Type 1} → statement M
 put-grounds-spec =

@@ -9,7 +9,7 @@ use Rattle.checks.proofs.put_pairs.Statement.{statement}
 use Rattle.checks.proofs.put_pairs.Tie as tie
 
 returns : tie.Need-returns
-returns c = recast (pairs-none _ _ _ _ _ (c .if1 .taken)) (none _ _)
+returns c = recast (pairs-none 64 _ _ _ _ _ (c .if1 .taken)) (none _ _)
 
 slice-aggregate-own-goals : tie.Need-slice-aggregate-own-goals
 slice-aggregate-own-goals c = search needs
@@ -21,13 +21,13 @@ slice-aggregate-put-rows : tie.Need-slice-aggregate-put-rows
 slice-aggregate-put-rows c = search needs
 
 put-rows-requires : tie.Need-put-rows-requires
-put-rows-requires c κs = let a = c .before .before .before .before .before .before .before .before .before .args in omega (arith, ap length (own-rows (now (a .sets)) (now (a .rows)) (a .p) (a .q) (a .k) _ (c .before .before .before .own-goals .ensures)))
+put-rows-requires c κs = let a = c .before .before .before .before .before .before .before .before .before .args in omega (arith, ap length (own-rows 64 (now (a .sets)) (now (a .rows)) (a .p) (a .q) (a .k) _ (c .before .before .before .own-goals .ensures)))
 
 same-length : tie.Need-same-length
 same-length c = search needs
 
 returns-2 : tie.Need-returns-2
-returns-2 c = recast (own-rows _ _ _ _ _ _ (c .before .before .before .before .before .before .own-goals .ensures)) (c .before .before .put-rows .ensures)
+returns-2 c = recast (own-rows 64 _ _ _ _ _ _ (c .before .before .before .before .before .before .own-goals .ensures)) (c .before .before .put-rows .ensures)
 
 pub put-pairs-spec : {M : Type 1} → statement M
 put-pairs-spec =

@@ -14,16 +14,16 @@ use Rattle.checks.proofs.put_row.Statement.{statement}
 use Rattle.checks.proofs.put_row.Tie as tie
 
 abbrev Inv-loop : tie.InvT-loop
-Inv-loop out₀ at x set o₀ rest₀ out o rest = (rest < 2 ^ 64) × Left (X.rowText x rest) (X.rowText x set) at out₀ o out
+Inv-loop out₀ at x m o₀ rest₀ out o rest = (rest < 2 ^ 64) × Left (X.rowText 64 x rest) (X.rowText 64 x m) at out₀ o out
 
 abbrev μ-loop : tie.MeasureT-loop
-μ-loop out₀ at x set o₀ rest₀ out o rest = length (members 64 rest)
+μ-loop out₀ at x m o₀ rest₀ out o rest = length (members 64 rest)
 
 -- what a turn writes, and what it leaves
 turn : (c : tie.After-first Inv-loop μ-loop) →
     let l = c .before .before .loop in
-    X.rowText (c .before .before .before .before .args .x) (l .rest) ≡ X.item (W.Indep (c .before .before .before .before .args .x) (c .first .result)) ++ X.rowText (c .before .before .before .before .args .x) (without (l .rest) (single (first 64 (l .rest))))
-turn c = rw (c .first .ensures) (row-step _ _ (c .before .before .loop .inv .0) (c .before .loop-test .taken))
+    X.rowText 64 (c .before .before .before .before .args .x) (l .rest) ≡ X.item (W.Indep (c .before .before .before .before .args .x) (c .first .result)) ++ X.rowText 64 (c .before .before .before .before .args .x) (without (l .rest) (single (first 64 (l .rest))))
+turn c = rw (c .first .ensures) (row-step 64 _ _ (c .before .before .loop .inv .0) (c .before .loop-test .taken))
 
 small : (c : tie.After-first Inv-loop μ-loop) → c .first .result < 64
 small c = rw (c .first .ensures) (first-in 64 _ (c .before .before .loop .inv .0) (c .before .loop-test .taken))
@@ -53,7 +53,7 @@ same-length : tie.Need-same-length Inv-loop μ-loop
 same-length c = left-kept (c .before .loop .inv .1)
 
 returns : tie.Need-returns Inv-loop μ-loop
-returns c = done (c .before .loop .inv .1) (row-end _ _ (c .loop-test .left))
+returns c = done (c .before .loop .inv .1) (row-end 64 _ _ (c .loop-test .left))
 
 pub put-row-spec : {M : Type 1} → statement M
 put-row-spec =

@@ -14,7 +14,7 @@ use Rattle.checks.proofs.put_rows.Statement.{statement}
 use Rattle.checks.proofs.put_rows.Tie as tie
 
 abbrev Inv-loop : tie.InvT-loop
-Inv-loop out₀ at own rows k o₀ rest₀ out o rest = (rest < 2 ^ 64) × Left (X.rowsText own rows k rest) (X.rowsText own rows k k) at out₀ o out
+Inv-loop out₀ at own rows k o₀ rest₀ out o rest = (rest < 2 ^ 64) × Left (X.rowsText 64 own rows k rest) (X.rowsText 64 own rows k k) at out₀ o out
 
 abbrev μ-loop : tie.MeasureT-loop
 μ-loop out₀ at own rows k o₀ rest₀ out o rest = length (members 64 rest)
@@ -26,12 +26,12 @@ small c = rw (c .first .ensures) (first-in 64 _ (c .before .before .loop .inv .0
 turn : (c : tie.After-partners Inv-loop μ-loop) →
     let l = c .before .before .before .before .before .loop in
     let a = c .before .before .before .before .before .before .before .before .before .args in
-    X.rowsText (now (a .own)) (now (a .rows)) (a .k) (l .rest)
-    ≡ X.rowText (c .before .before .before .first .result) (c .partners .result)
-    ++ X.rowsText (now (a .own)) (now (a .rows)) (a .k) (without (l .rest) (single (first 64 (l .rest))))
+    X.rowsText 64 (now (a .own)) (now (a .rows)) (a .k) (l .rest)
+    ≡ X.rowText 64 (c .before .before .before .first .result) (c .partners .result)
+    ++ X.rowsText 64 (now (a .own)) (now (a .rows)) (a .k) (without (l .rest) (single (first 64 (l .rest))))
 turn c =
     rw (c .partners .ensures, c .before .goal2 .ensures, c .before .before .goal .ensures, c .before .before .before .first .ensures)
-    (rows-step _ _ _ _ (c .before .before .before .before .before .loop .inv .0) (c .before .before .before .before .loop-test .taken))
+    (rows-step 64 _ _ _ _ (c .before .before .before .before .before .loop .inv .0) (c .before .before .before .before .loop-test .taken))
 
 loop-holds : tie.Need-loop-holds Inv-loop μ-loop
 loop-holds c = (search needs, start _ _ _)
@@ -79,7 +79,7 @@ same-length : tie.Need-same-length Inv-loop μ-loop
 same-length c = left-kept (c .before .loop .inv .1)
 
 returns : tie.Need-returns Inv-loop μ-loop
-returns c = done (c .before .loop .inv .1) (rows-end _ _ _ _ (c .loop-test .left))
+returns c = done (c .before .loop .inv .1) (rows-end 64 _ _ _ _ (c .loop-test .left))
 
 pub put-rows-spec : {M : Type 1} → statement M
 put-rows-spec =

@@ -19,7 +19,7 @@ numbers-length-requires : tie.Need-numbers-length-requires
 numbers-length-requires c κs = omega (arith, c .number-length .ensures, decimal-length (c .before .args .x))
 
 returns : tie.Need-returns
-returns c = c .numbers-length .ensures ∙ ap (λ (n : ℕ). numbersLength (11 + n) (members 64 (c .before .before .args .set))) (c .before .number-length .ensures) ∙ row-length _ _
+returns c = c .numbers-length .ensures ∙ ap (λ (n : ℕ). numbersLength (11 + n) (members 64 (c .before .before .args .m))) (c .before .number-length .ensures) ∙ row-length 64 _ _
 
 pub row-length-spec : {M : Type 1} → statement M
 row-length-spec =

@@ -13,7 +13,7 @@ use Rattle.checks.proofs.rows_length.Statement.{statement}
 use Rattle.checks.proofs.rows_length.Tie as tie
 
 abbrev Inv-loop : tie.InvT-loop
-Inv-loop own rows k o₀ rest₀ o rest = (rest < 2 ^ 64) × (o + length (X.rowsText own rows k rest) ≡ length (X.rowsText own rows k k))
+Inv-loop own rows k o₀ rest₀ o rest = (rest < 2 ^ 64) × (o + length (X.rowsText 64 own rows k rest) ≡ length (X.rowsText 64 own rows k k))
 
 abbrev μ-loop : tie.MeasureT-loop
 μ-loop own rows k o₀ rest₀ o rest = length (members 64 rest)
@@ -25,12 +25,12 @@ small c = rw (c .first .ensures) (first-in 64 _ (c .before .before .loop .inv .0
 turn : (c : tie.After-partners Inv-loop μ-loop) →
     let l = c .before .before .before .before .before .loop in
     let a = c .before .before .before .before .before .before .before .before .args in
-    X.rowsText (now (a .own)) (now (a .rows)) (a .k) (l .rest)
-    ≡ X.rowText (c .before .before .before .first .result) (c .partners .result)
-    ++ X.rowsText (now (a .own)) (now (a .rows)) (a .k) (without (l .rest) (single (first 64 (l .rest))))
+    X.rowsText 64 (now (a .own)) (now (a .rows)) (a .k) (l .rest)
+    ≡ X.rowText 64 (c .before .before .before .first .result) (c .partners .result)
+    ++ X.rowsText 64 (now (a .own)) (now (a .rows)) (a .k) (without (l .rest) (single (first 64 (l .rest))))
 turn c =
     rw (c .partners .ensures, c .before .goal2 .ensures, c .before .before .goal .ensures, c .before .before .before .first .ensures)
-    (rows-step _ _ _ _ (c .before .before .before .before .before .loop .inv .0) (c .before .before .before .before .loop-test .taken))
+    (rows-step 64 _ _ _ _ (c .before .before .before .before .before .loop .inv .0) (c .before .before .before .before .loop-test .taken))
 
 loop-holds : tie.Need-loop-holds Inv-loop μ-loop
 loop-holds c = (search needs, omega arith)
@@ -78,7 +78,7 @@ loop-again : tie.Need-loop-again Inv-loop μ-loop
 loop-again c = (c .without-first .ok, rw (c .without-first .ensures) (omega (arith, c .before .before .before .before .before .before .before .loop .inv .1, c .before .row-length .ensures, simp length-append at (ap length (turn (c .before .before))))))
 
 returns : tie.Need-returns Inv-loop μ-loop
-returns c = let a = c .before .before .before .before .args in omega (arith, c .before .loop .inv .1, ap length (rows-end (now (a .own)) (now (a .rows)) (a .k) (c .before .loop .rest) (c .loop-test .left)))
+returns c = let a = c .before .before .before .before .args in omega (arith, c .before .loop .inv .1, ap length (rows-end 64 (now (a .own)) (now (a .rows)) (a .k) (c .before .loop .rest) (c .loop-test .left)))
 
 pub rows-length-spec : {M : Type 1} → statement M
 rows-length-spec =

@@ -1,18 +1,18 @@
 use mathlib.Core.Path.{_≡_, sym, ap, _∙_}
 use mathlib.Core.Logic.{⊎-elim}
 use native.Mathlib.Omega.{arith}
-use Prim.Native.Nat.{_-_, _≤_}
+use Prim.Native.Nat.{_+_, _-_, _≤_}
 use borrow.Author.Needs.{needs}
-use Rattle.sets.specs.Sets.{union, first, setOf}
+use Rattle.sets.specs.Sets.{union, single, first, setOf}
 use Rattle.compare.proofs.Rows.{apart, marks-start, marks-more, compare-end, compare-row, compare-place, compare-hit}
 use Rattle.compare.proofs.compare.Statement.{statement}
 use Rattle.compare.proofs.compare.Tie as tie
 use Rattle.compare.proofs.compare.Reads as reads
 use Rattle.compare.proofs.compare.Lts as lts
-use Rattle.compare.proofs.lowest.Reads as lowest-reads
 use Rattle.compare.proofs.odd.Reads as odd-reads
+use Rattle.graph.proofs.Graph.single.Reads as single-reads
 use Rattle.sets.proofs.below32.Reads as below32-reads
-use Rattle.sets.proofs.single32.Reads as single32-reads
+use Rattle.sets.proofs.first32.Reads as first32-reads
 
 abbrev Inv-loop : tie.InvT-loop
 Inv-loop a b n goals uneven₀ k₀ uneven k = (k ≤ n) × (uneven ≡ setOf k (apart n a b))
@@ -41,8 +41,11 @@ element-copy-out-odd-2 c = search needs
 odd-requires : tie.Need-odd-requires Inv-loop μ-loop
 odd-requires c κs = search needs
 
-single32-requires : tie.Need-single32-requires Inv-loop μ-loop
-single32-requires c κs = search needs
+add-single : tie.Need-add-single Inv-loop μ-loop
+add-single c = search needs
+
+single-requires : tie.Need-single-requires Inv-loop μ-loop
+single-requires c κs = search needs
 
 add-k : tie.Need-add-k Inv-loop μ-loop
 add-k c = search needs
@@ -53,50 +56,45 @@ loop-less c = search needs
 loop-again : tie.Need-loop-again Inv-loop μ-loop
 loop-again c =
     let l = c .before .before .before .before .before .loop in
+    let here : l .k + 1 - 1 ≡ l .k = omega arith in
     let more = marks-more (c .before .before .before .before .before .before .before .args .n) (c .before .before .before .before .before .before .before .args .a .now) (c .before .before .before .before .before .before .before .args .b .now) _ (c .before .before .before .before .before .before .below32 .ensures) (l .uneven) (l .k) (l .inv .1) in (
       search needs,
-      ⊎-elim (λ w. w .2 ∙ ap (λ z. union (l .uneven) z) (w .1 .ensures) ∙ more .0 (λ z. w .0 .taken (c .before .odd .ensures ∙ z)))
+      ⊎-elim (λ w. w .2 ∙ ap (λ z. union (l .uneven) z) (w .1 .ensures ∙ ap single here) ∙ more .0 (λ z. w .0 .taken (c .before .odd .ensures ∙ z)))
           (λ w. w .1 ∙ more .1 (sym (c .before .odd .ensures) ∙ w .0 .left)) (c .if1 .came),
     )
 
 returns : tie.Need-returns Inv-loop μ-loop
 returns c = compare-end (c .before .before .before .before .args .n) (c .before .before .before .before .args .a .now) (c .before .before .before .before .args .b .now) (c .before .before .before .before .pre) _ (c .before .before .loop .k) (c .before .loop-test .left) (c .before .before .loop .inv .0) (c .before .before .loop .inv .1) (c .if2 .taken)
 
-lowest-requires : tie.Need-lowest-requires Inv-loop μ-loop
-lowest-requires c κs = search needs
-
-cast-i : tie.Need-cast-i Inv-loop μ-loop
-cast-i c = search needs
+first32-requires : tie.Need-first32-requires Inv-loop μ-loop
+first32-requires c κs = search needs
 
 mul-odd-3 : tie.Need-mul-odd-3 Inv-loop μ-loop
-mul-odd-3 c = search needs
+mul-odd-3 c = let l = (compare-row (c .before .before .before .before .before .args .n) (c .before .before .before .before .before .args .a .now) (c .before .before .before .before .before .args .b .now) (c .before .before .before .before .before .pre) _ (c .before .before .before .loop .k) (c .before .before .loop-test .left) (c .before .before .before .loop .inv .0) (c .before .before .before .loop .inv .1) (c .before .if2 .left) _ (c .first32 .ensures)) .1 in search needs
 
 element-copy-out-odd-3 : tie.Need-element-copy-out-odd-3 Inv-loop μ-loop
-element-copy-out-odd-3 c = (compare-row (c .before .before .before .before .before .args .n) (c .before .before .before .before .before .args .a .now) (c .before .before .before .before .before .args .b .now) (c .before .before .before .before .before .pre) _ (c .before .before .before .loop .k) (c .before .before .loop-test .left) (c .before .before .before .loop .inv .0) (c .before .before .before .loop .inv .1) (c .before .if2 .left) _ (c .lowest .ensures)) .1
+element-copy-out-odd-3 c = (compare-row (c .before .before .before .before .before .args .n) (c .before .before .before .before .before .args .a .now) (c .before .before .before .before .before .args .b .now) (c .before .before .before .before .before .pre) _ (c .before .before .before .loop .k) (c .before .before .loop-test .left) (c .before .before .before .loop .inv .0) (c .before .before .before .loop .inv .1) (c .before .if2 .left) _ (c .first32 .ensures)) .1
 
 mul-odd-4 : tie.Need-mul-odd-4 Inv-loop μ-loop
-mul-odd-4 c = search needs
+mul-odd-4 c = let l = (compare-row (c .before .before .before .before .before .before .args .n) (c .before .before .before .before .before .before .args .a .now) (c .before .before .before .before .before .before .args .b .now) (c .before .before .before .before .before .before .pre) _ (c .before .before .before .before .loop .k) (c .before .before .before .loop-test .left) (c .before .before .before .before .loop .inv .0) (c .before .before .before .before .loop .inv .1) (c .before .before .if2 .left) _ (c .before .first32 .ensures)) .1 in search needs
 
 element-copy-out-odd-4 : tie.Need-element-copy-out-odd-4 Inv-loop μ-loop
-element-copy-out-odd-4 c = (compare-row (c .before .before .before .before .before .before .args .n) (c .before .before .before .before .before .before .args .a .now) (c .before .before .before .before .before .before .args .b .now) (c .before .before .before .before .before .before .pre) _ (c .before .before .before .before .loop .k) (c .before .before .before .loop-test .left) (c .before .before .before .before .loop .inv .0) (c .before .before .before .before .loop .inv .1) (c .before .before .if2 .left) _ (c .before .lowest .ensures)) .1
+element-copy-out-odd-4 c = (compare-row (c .before .before .before .before .before .before .args .n) (c .before .before .before .before .before .before .args .a .now) (c .before .before .before .before .before .before .args .b .now) (c .before .before .before .before .before .before .pre) _ (c .before .before .before .before .loop .k) (c .before .before .before .loop-test .left) (c .before .before .before .before .loop .inv .0) (c .before .before .before .before .loop .inv .1) (c .before .before .if2 .left) _ (c .before .first32 .ensures)) .1
 
 odd-requires-2 : tie.Need-odd-requires-2 Inv-loop μ-loop
 odd-requires-2 c κs = search needs
 
-lowest-requires-2 : tie.Need-lowest-requires-2 Inv-loop μ-loop
-lowest-requires-2 c κs = search needs
+first32-requires-2 : tie.Need-first32-requires-2 Inv-loop μ-loop
+first32-requires-2 c κs = search needs
 
-cast-j : tie.Need-cast-j Inv-loop μ-loop
-cast-j c = search needs
+add-i : tie.Need-add-i Inv-loop μ-loop
+add-i c = let l = compare-row (c .before .before .before .before .before .before .before .before .before .args .n) (c .before .before .before .before .before .before .before .before .before .args .a .now) (c .before .before .before .before .before .before .before .before .before .args .b .now) (c .before .before .before .before .before .before .before .before .before .pre) _ (c .before .before .before .before .before .before .before .loop .k) (c .before .before .before .before .before .before .loop-test .left) (c .before .before .before .before .before .before .before .loop .inv .0) (c .before .before .before .before .before .before .before .loop .inv .1) (c .before .before .before .before .before .if2 .left) _ (c .before .before .before .before .first32 .ensures) in omega (arith, l .1)
 
-add-t23 : tie.Need-add-t23 Inv-loop μ-loop
-add-t23 c = let l = compare-row (c .before .before .before .before .before .before .before .before .before .args .n) (c .before .before .before .before .before .before .before .before .before .args .a .now) (c .before .before .before .before .before .before .before .before .before .args .b .now) (c .before .before .before .before .before .before .before .before .before .pre) _ (c .before .before .before .before .before .before .before .loop .k) (c .before .before .before .before .before .before .loop-test .left) (c .before .before .before .before .before .before .before .loop .inv .0) (c .before .before .before .before .before .before .before .loop .inv .1) (c .before .before .before .before .before .if2 .left) _ (c .before .before .before .before .lowest .ensures) in omega (arith, l .1)
-
-add-t27 : tie.Need-add-t27 Inv-loop μ-loop
-add-t27 c = let l = compare-place (c .before .before .before .before .before .before .before .before .before .args .n) (c .before .before .before .before .before .before .before .before .before .args .a .now) (c .before .before .before .before .before .before .before .before .before .args .b .now) (c .before .before .before .before .before .before .before .before .before .pre) _ (c .before .before .before .before .before .before .before .loop .k) (c .before .before .before .before .before .before .loop-test .left) (c .before .before .before .before .before .before .before .loop .inv .0) (c .before .before .before .before .before .before .before .loop .inv .1) (c .before .before .before .before .before .if2 .left) _ (c .before .before .before .before .lowest .ensures) _ (c .before .before .before .before .before .before .before .before .below32 .ensures) _ (c .lowest2 .ensures ∙ ap (λ z. first 32 z) (c .before .odd2 .ensures)) in omega arith
+add-j : tie.Need-add-j Inv-loop μ-loop
+add-j c = let l = compare-place (c .before .before .before .before .before .before .before .before .before .args .n) (c .before .before .before .before .before .before .before .before .before .args .a .now) (c .before .before .before .before .before .before .before .before .before .args .b .now) (c .before .before .before .before .before .before .before .before .before .pre) _ (c .before .before .before .before .before .before .before .loop .k) (c .before .before .before .before .before .before .loop-test .left) (c .before .before .before .before .before .before .before .loop .inv .0) (c .before .before .before .before .before .before .before .loop .inv .1) (c .before .before .before .before .before .if2 .left) _ (c .before .before .before .before .first32 .ensures) _ (c .before .before .before .before .before .before .before .before .below32 .ensures) _ (c .first322 .ensures ∙ ap (λ z. first 32 z) (c .before .odd2 .ensures)) in omega arith
 
 returns-2 : tie.Need-returns-2 Inv-loop μ-loop
-returns-2 c = compare-hit (c .before .before .before .before .before .before .before .before .before .args .n) (c .before .before .before .before .before .before .before .before .before .args .a .now) (c .before .before .before .before .before .before .before .before .before .args .b .now) (c .before .before .before .before .before .before .before .before .before .pre) _ (c .before .before .before .before .before .before .before .loop .k) (c .before .before .before .before .before .before .loop-test .left) (c .before .before .before .before .before .before .before .loop .inv .0) (c .before .before .before .before .before .before .before .loop .inv .1) (c .before .before .before .before .before .if2 .left) _ (c .before .before .before .before .lowest .ensures) _ (c .before .before .before .before .before .before .before .before .below32 .ensures) _ (c .lowest2 .ensures ∙ ap (λ z. first 32 z) (c .before .odd2 .ensures))
+returns-2 c = compare-hit (c .before .before .before .before .before .before .before .before .before .args .n) (c .before .before .before .before .before .before .before .before .before .args .a .now) (c .before .before .before .before .before .before .before .before .before .args .b .now) (c .before .before .before .before .before .before .before .before .before .pre) _ (c .before .before .before .before .before .before .before .loop .k) (c .before .before .before .before .before .before .loop-test .left) (c .before .before .before .before .before .before .before .loop .inv .0) (c .before .before .before .before .before .before .before .loop .inv .1) (c .before .before .before .before .before .if2 .left) _ (c .before .before .before .before .first32 .ensures) _ (c .before .before .before .before .before .before .before .before .below32 .ensures) _ (c .first322 .ensures ∙ ap (λ z. first 32 z) (c .before .odd2 .ensures))
 
 pub compare-spec : {M : Type 1} → statement M
 compare-spec =
@@ -111,20 +109,19 @@ compare-spec =
     mul-odd-2
     element-copy-out-odd-2
     odd-requires
-    single32-requires
+    add-single
+    single-requires
     add-k
     loop-less
     loop-again
     returns
-    lowest-requires
-    cast-i
+    first32-requires
     mul-odd-3
     element-copy-out-odd-3
     mul-odd-4
     element-copy-out-odd-4
     odd-requires-2
-    lowest-requires-2
-    cast-j
-    add-t23
-    add-t27
+    first32-requires-2
+    add-i
+    add-j
     returns-2)

@@ -1,10 +1,13 @@
-use mathlib.Core.Path.{sym, _∙_}
+use mathlib.Core.Path.{sym, ap, _∙_}
+use mathlib.Core.Bool.{Bool, cond}
 use mathlib.Core.Logic.{⊎-elim}
 use native.Mathlib.Omega.{arith}
-use lib.ListN.{length}
+use lib.ListN.{length, replicate}
 use borrow.Author.Tests.{leb-true}
 use borrow.Author.Needs.{needs}
 use denote.Ref.{now}
+use Rattle.decoding.specs.Clause.{goalSets, pairRows}
+use Rattle.reading.proofs.Must.{not-fine}
 use Rattle.header.proofs.Steps.{header-short}
 use Rattle.decoding.proofs.Whole.{header-limits, all-fine, header-refused, rest-refused}
 use Rattle.decoding.proofs.read.Statement.{statement}
@@ -29,20 +32,37 @@ rest-requires c κs = let s = c .before .before .before .before .before .before 
 
 returns : tie.Need-returns
 returns c = let d = c .before .before .before .before in
+    let b = now (d .before .before .before .before .before .before .before .args .b) in
     let h = sym (d .before .header-fine .ensures) ∙ d .if2 .taken in
-    (all-fine (now (d .before .before .before .before .before .before .before .args .b)) h (sym (c .before .rest .ensures .0) ∙ c .if3 .taken), λ e. c .before .rest .ensures .1 (c .if3 .taken))
+    let r = c .before .rest .ensures in (
+      all-fine b h (sym (r .0) ∙ c .if3 .taken),
+      (
+        λ e. (r .1 .0 ∙ ap (λ (q : Bool). cond q (goalSets 32 b) (replicate 32 0)) (c .if3 .taken), r .1 .1 ∙ ap (λ (q : Bool). cond q (pairRows 64 b) (replicate 64 0)) (c .if3 .taken)),
+        λ x e. absurd (not-fine x (sym e)),
+      ),
+    )
 
 read-requires : tie.Need-read-requires
 read-requires c κs = search needs
 
 returns-2 : tie.Need-returns-2
 returns-2 c =
-    let b = now (c .before .before .before .before .args .b) in (
+    let s = c .before .before .before .before in
+    let b = now (s .args .b) in (
       c .read .ensures,
-      ⊎-elim (λ w. rest-refused b _ _ _ (c .read .ensures) (sym (w .3 .ensures) ∙ w .4 .taken) (sym (w .7 .ensures .0) ∙ w .8 .left))
-          (λ v.
-          ⊎-elim (λ w. header-refused b _ _ _ (c .read .ensures) (sym (w .3 .ensures) ∙ w .4 .left))
-          (λ w. header-refused b _ _ _ (c .read .ensures) (sym (header-short b (sym (c .before .before .size-fine .ensures) ∙ w .0 .left)))) v) (c .before .if1 .came),
+      (
+        ⊎-elim (λ w. rest-refused b _ _ _ (c .read .ensures) (sym (w .3 .ensures) ∙ w .4 .taken) (sym (w .7 .ensures .0) ∙ w .8 .left))
+            (λ v.
+            ⊎-elim (λ w. header-refused b _ _ _ (c .read .ensures) (sym (w .3 .ensures) ∙ w .4 .left))
+            (λ w. header-refused b _ _ _ (c .read .ensures) (sym (header-short b (sym (c .before .before .size-fine .ensures) ∙ w .0 .left)))) v) (c .before .if1 .came),
+        λ x e.
+            ⊎-elim
+            (λ w. (
+              w .9 ∙ w .7 .ensures .1 .0 ∙ ap (λ (q : Bool). cond q (goalSets 32 b) (replicate 32 0)) (w .8 .left),
+              w .10 ∙ w .7 .ensures .1 .1 ∙ ap (λ (q : Bool). cond q (pairRows 64 b) (replicate 64 0)) (w .8 .left),
+            ))
+            (λ v. ⊎-elim (λ w. (w .5 ∙ s .pre .0, w .6 ∙ s .pre .1)) (λ w. (w .1 ∙ s .pre .0, w .2 ∙ s .pre .1)) v) (c .before .if1 .came),
+      ),
     )
 
 pub read-spec : {M : Type 1} → statement M

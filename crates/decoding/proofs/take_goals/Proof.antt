@@ -1,5 +1,5 @@
 use Prim.Native.Nat.{ℕ, _≤_, _*_, _+_, _-_}
-use mathlib.Core.Path.{_≡_, sym, ap, ap₂, _∙_}
+use mathlib.Core.Path.{_≡_, sym, ap, ap₂, _∙_, refl}
 use mathlib.Core.Bool.{true}
 use native.Mathlib.Omega.{arith}
 use denote.Ref.{now}
@@ -15,7 +15,7 @@ use Rattle.decoding.proofs.take_goals.Statement.{statement}
 use Rattle.decoding.proofs.take_goals.Tie as tie
 
 abbrev Inv-loop : tie.InvT-loop
-Inv-loop b n v goals₀ at₀ g₀ goals at g = (g ≤ n) × (at ≡ F.placeAfter b g) × (at ≤ 24 + 264 * g) × (24 ≤ at) × (goals ≡ setsAfter b g) × (R.goals b g Fine ≡ Fine)
+Inv-loop b n v goals₀ at₀ g₀ goals at g = (g ≤ n) × (at ≡ F.placeAfter b g) × (at ≤ 24 + 264 * g) × (24 ≤ at) × (goals ≡ setsAfter 32 b g) × (R.goals b g Fine ≡ Fine)
 
 abbrev μ-loop : tie.MeasureT-loop
 μ-loop b n v goals₀ at₀ g₀ goals at g = n - g
@@ -25,7 +25,7 @@ fine : (c : tie.Then1 Inv-loop μ-loop) → goalFine (now (c .before .before .be
 fine c = sym (c .before .goal-fine .ensures) ∙ c .if1 .taken
 
 loop-holds : tie.Need-loop-holds Inv-loop μ-loop
-loop-holds c = (omega arith, place-zero _, omega arith, omega arith, c .before .pre .3 ∙ sets-zero _, goals-start _)
+loop-holds c = (omega arith, place-zero _, omega arith, omega arith, c .before .pre .3 ∙ sets-zero 32 _, goals-start _)
 
 text-length-at-requires : tie.Need-text-length-at-requires Inv-loop μ-loop
 text-length-at-requires c κs = omega arith
@@ -63,16 +63,17 @@ loop-again c = let d = c .before .before in
       ap₂ _+_ (c .text-at .ensures) (d .before .before .text-length-at .ensures .0) ∙ place-turn b (l .g) (l .at) (l .inv .1),
       omega arith,
       omega arith,
-      sets-more b (l .g) (l .at) (l .goals) _ (omega (arith, s .pre .0)) (l .inv .4) (l .inv .1) (c .before .whole-set .ensures),
+      sets-more 32 b (l .g) (l .at) (l .goals) _ (omega (arith, s .pre .0)) (l .inv .4) (l .inv .1) (c .before .whole-set .ensures),
       goals-go b (l .g) (l .at) (l .inv .1) (l .inv .5) (fine d),
     )
 
 returns : tie.Need-returns Inv-loop μ-loop
-returns c = let l = c .before .before .before .before .loop in
-    let s = c .before .before .before .before .before .before in
+returns c = let d = c .before in
+    let l = d .before .before .before .before .loop in
+    let s = d .before .before .before .before .before .before in
     let b = now (s .args .b) in
-    let bad = goal-refused b (l .g) (l .at) (omega (arith, s .pre .1)) (l .inv .1) (l .inv .5) (sym (c .before .goal-fine .ensures) ∙ c .if1 .left) in
-    (λ h. absurd (omega arith), (λ e. bad, omega arith))
+    let bad = goal-refused b (l .g) (l .at) (omega (arith, s .pre .1)) (l .inv .1) (l .inv .5) (sym (d .before .goal-fine .ensures) ∙ d .if1 .left) in
+    (λ h. absurd (omega arith), (λ e. (bad, refl), omega arith))
 
 returns-2 : tie.Need-returns-2 Inv-loop μ-loop
 returns-2 c = let l = c .before .loop in
@@ -82,7 +83,7 @@ returns-2 c = let l = c .before .loop in
       λ h.
           record {
             accepted = sym (ap (λ (x : ℕ). R.goals b x Fine) e) ∙ l .inv .5;
-            stored = l .inv .4 ∙ sets-all b (l .g) e;
+            stored = l .inv .4 ∙ sets-all 32 b (l .g) e;
             place = l .inv .1 ∙ ap (F.placeAfter b) e;
           },
       (λ h. absurd (omega arith), omega arith),

@@ -1,5 +1,5 @@
 use Prim.Native.Nat.{ℕ, _≤_, _<_, _*_, _+_, _-_}
-use mathlib.Core.Path.{_≡_, sym, ap, _∙_}
+use mathlib.Core.Path.{_≡_, sym, ap, _∙_, refl}
 use mathlib.Core.Bool.{true, false≢true}
 use native.Mathlib.Omega.{arith}
 use borrow.Author.Needs.{needs}
@@ -14,10 +14,10 @@ use Rattle.decoding.proofs.take_pairs.Statement.{statement}
 use Rattle.decoding.proofs.take_pairs.Tie as tie
 
 abbrev Inv-loop : tie.InvT-loop
-Inv-loop b from v p rows₀ last₀ k₀ rows last k = (k ≤ p) × (rows ≡ rowsAfter b k) × (last ≡ T.last b k) × (O.inOrder b k ≡ true)
+Inv-loop b from v p listed₀ last₀ k₀ listed last k = (k ≤ p) × (listed ≡ rowsAfter 64 b k) × (last ≡ T.last b k) × (O.inOrder b k ≡ true)
 
 abbrev μ-loop : tie.MeasureT-loop
-μ-loop b from v p rows₀ last₀ k₀ rows last k = p - k
+μ-loop b from v p listed₀ last₀ k₀ listed last k = p - k
 
 -- both variables of the pair are below 64
 below : (c : tie.Then1 Inv-loop μ-loop) → (c .before .before .before .before .small .result < 64) × (c .before .before .small2 .result < 64)
@@ -30,7 +30,7 @@ below c =
     (omega (arith, h), omega (arith, h))
 
 loop-holds : tie.Need-loop-holds Inv-loop μ-loop
-loop-holds c = (omega arith, c .before .pre .5 ∙ rows-zero _, last-zero _, sym (order-zero _))
+loop-holds c = (omega arith, c .before .pre .5 ∙ rows-zero 64 _, last-zero _, sym (order-zero _))
 
 mul-at : tie.Need-mul-at Inv-loop μ-loop
 mul-at c = omega arith
@@ -68,35 +68,35 @@ cast-i c = omega arith
 cast-j : tie.Need-cast-j Inv-loop μ-loop
 cast-j c = omega arith
 
-mul-rows : tie.Need-mul-rows Inv-loop μ-loop
-mul-rows c = omega arith
+mul-listed : tie.Need-mul-listed Inv-loop μ-loop
+mul-listed c = omega arith
 
-element-copy-out-rows : tie.Need-element-copy-out-rows Inv-loop μ-loop
-element-copy-out-rows c = omega (arith, below c)
+element-copy-out-listed : tie.Need-element-copy-out-listed Inv-loop μ-loop
+element-copy-out-listed c = omega (arith, below c)
 
-shl-rows : tie.Need-shl-rows Inv-loop μ-loop
-shl-rows c = omega (arith, below (c .before))
+shl-listed : tie.Need-shl-listed Inv-loop μ-loop
+shl-listed c = omega (arith, below (c .before))
 
-mul-rows-2 : tie.Need-mul-rows-2 Inv-loop μ-loop
-mul-rows-2 c = omega arith
+mul-listed-2 : tie.Need-mul-listed-2 Inv-loop μ-loop
+mul-listed-2 c = omega arith
 
-element-write-rows : tie.Need-element-write-rows Inv-loop μ-loop
-element-write-rows c = omega (arith, below (c .before))
+element-write-listed : tie.Need-element-write-listed Inv-loop μ-loop
+element-write-listed c = omega (arith, below (c .before))
 
-mul-rows-3 : tie.Need-mul-rows-3 Inv-loop μ-loop
-mul-rows-3 c = omega arith
+mul-listed-3 : tie.Need-mul-listed-3 Inv-loop μ-loop
+mul-listed-3 c = omega arith
 
-element-copy-out-rows-2 : tie.Need-element-copy-out-rows-2 Inv-loop μ-loop
-element-copy-out-rows-2 c = omega (arith, below (c .before))
+element-copy-out-listed-2 : tie.Need-element-copy-out-listed-2 Inv-loop μ-loop
+element-copy-out-listed-2 c = omega (arith, below (c .before))
 
-shl-rows-2 : tie.Need-shl-rows-2 Inv-loop μ-loop
-shl-rows-2 c = omega (arith, below (c .before .before))
+shl-listed-2 : tie.Need-shl-listed-2 Inv-loop μ-loop
+shl-listed-2 c = omega (arith, below (c .before .before))
 
-mul-rows-4 : tie.Need-mul-rows-4 Inv-loop μ-loop
-mul-rows-4 c = omega arith
+mul-listed-4 : tie.Need-mul-listed-4 Inv-loop μ-loop
+mul-listed-4 c = omega arith
 
-element-write-rows-2 : tie.Need-element-write-rows-2 Inv-loop μ-loop
-element-write-rows-2 c = omega (arith, below (c .before .before))
+element-write-listed-2 : tie.Need-element-write-listed-2 Inv-loop μ-loop
+element-write-listed-2 c = omega (arith, below (c .before .before))
 
 add-k : tie.Need-add-k Inv-loop μ-loop
 add-k c = omega arith
@@ -115,26 +115,27 @@ loop-again c = let d = c .before .before in
     let h = below d in
     let place : s .args .from + 2 * l .k ≡ F.pairAt b (l .k) = ap (λ (x : ℕ). x + 2 * l .k) (s .pre .4) in (
       omega arith,
-      rows-turn b (l .k) _ _ (l .rows) (h .0) (h .1) (low ∙ ap (F.byte b) place) (high ∙ ap (λ (x : ℕ). F.byte b (x + 1)) place) (l .inv .1),
+      rows-turn 64 b (l .k) _ _ (l .listed) (h .0) (h .1) (low ∙ ap (F.byte b) place) (high ∙ ap (λ (x : ℕ). F.byte b (x + 1)) place) (l .inv .1),
       last-turn b (s .args .from) _ _ (l .k) (s .pre .4) low high,
       pair-more b (s .args .from) (s .args .v) _ _ (l .last) (l .k) _ (s .pre .4) (s .pre .2) low high (l .inv .2) (f .pair-fine .ensures) (l .inv .3) (d .if1 .taken),
     )
 
 returns : tie.Need-returns Inv-loop μ-loop
-returns c = let f = c .before in
+returns c = let d = c .before in
+    let f = d .before in
     let l = f .before .before .before .before .before .before .loop in
     let s = f .before .before .before .before .before .before .before .before in
     let low = f .before .before .before .small .ensures .0 in
     let high = f .before .small2 .ensures .0 in
-    let bad = pair-fails (now (s .args .b)) (s .args .from) (s .args .v) _ _ (l .last) (l .k) _ (s .pre .4) (s .pre .2) low high (l .inv .2) (f .pair-fine .ensures) (l .inv .3) (s .args .p) (omega arith) (c .if1 .left) in
-    (sym bad, λ e. absurd (false≢true e))
+    let bad = pair-fails (now (s .args .b)) (s .args .from) (s .args .v) _ _ (l .last) (l .k) _ (s .pre .4) (s .pre .2) low high (l .inv .2) (f .pair-fine .ensures) (l .inv .3) (s .args .p) (omega arith) (d .if1 .left) in
+    (sym bad, refl)
 
 returns-2 : tie.Need-returns-2 Inv-loop μ-loop
 returns-2 c = let l = c .before .loop in
     let s = c .before .before .before in
     let b = now (s .args .b) in
     let e : l .k ≡ s .args .p = omega arith in
-    (sym (l .inv .3) ∙ ap (O.inOrder b) e, λ h. l .inv .1 ∙ rows-all b (l .k) (e ∙ s .pre .3))
+    (sym (l .inv .3) ∙ ap (O.inOrder b) e, l .inv .1 ∙ rows-all 64 b (l .k) (e ∙ s .pre .3))
 
 pub take-pairs-spec : {M : Type 1} → statement M
 take-pairs-spec =
@@ -155,16 +156,16 @@ take-pairs-spec =
     pair-fine-requires
     cast-i
     cast-j
-    mul-rows
-    element-copy-out-rows
-    shl-rows
-    mul-rows-2
-    element-write-rows
-    mul-rows-3
-    element-copy-out-rows-2
-    shl-rows-2
-    mul-rows-4
-    element-write-rows-2
+    mul-listed
+    element-copy-out-listed
+    shl-listed
+    mul-listed-2
+    element-write-listed
+    mul-listed-3
+    element-copy-out-listed-2
+    shl-listed-2
+    mul-listed-4
+    element-write-listed-2
     add-k
     loop-less
     loop-again

@@ -20,7 +20,7 @@ waits-of-requires : tie.Need-waits-of-requires
 waits-of-requires c κs =
     let t = c .before .before in
     let r = t .before .before .read .ensures in
-    (fine-well-formed _ (sym (r .0) ∙ t .enum-told .given .1) .goals-to, r .1 (t .enum-told .given .1))
+    (fine-well-formed _ (sym (r .0) ∙ t .enum-told .given .1) .goals-to, r .1 .0 (t .enum-told .given .1))
 
 say-graph-requires : tie.Need-say-graph-requires
 say-graph-requires c κs = search needs

@@ -10,7 +10,7 @@ use Rattle.form.proofs.length.Statement.{statement}
 use Rattle.form.proofs.length.Tie as tie
 use Rattle.form.proofs.length.Reads as reads
 use Rattle.form.proofs.length.Lts as lts
-use Rattle.form.proofs.closed.Reads as closed-reads
+use Rattle.order.proofs.order_of.Reads as order-of-reads
 use Rattle.form.proofs.length_rows.Reads as length-rows-reads
 use Rattle.decoding.proofs.read.Reads as read-reads
 
@@ -27,20 +27,20 @@ enum-known-s c = search needs
 enum-told : tie.Need-enum-told
 enum-told c = search needs
 
-closed-requires : tie.Need-closed-requires
-closed-requires c κs =
+order-of-requires : tie.Need-order-of-requires
+order-of-requires c κs =
     let t = c .before .before in
-    (goals-to _ (fine t), t .before .before .read .ensures .1 (t .enum-told .given .1))
+    (goals-to _ (fine t), t .before .before .read .ensures .1 .0 (t .enum-told .given .1))
 
 length-rows-requires : tie.Need-length-rows-requires
-length-rows-requires c κs = graph-asks _ (fine (c .before .before .before .before .before)) _ (c .before .before .closed .ensures)
+length-rows-requires c κs = graph-asks _ (fine (c .before .before .before .before .before)) _ (c .before .before .order-of .ensures)
 
 returns : tie.Need-returns
 returns c = estimated-refused _ _ _ (plan-refused _ _ (sym (c .before .before .before .read .ensures .0) ∙ c .before .s .given .1))
 
 returns-2 : tie.Need-returns-2
 returns-2 c =
-    subst (λ (p : Plan). Estimated p (estimate (c .length-rows .result))) (graph-plan _ (fine (c .before .before .before .before .before .before)) _ (c .before .before .before .closed .ensures)) (c .length-rows .ensures)
+    subst (λ (p : Plan). Estimated p (estimate (c .length-rows .result))) (graph-plan _ (fine (c .before .before .before .before .before .before)) _ (c .before .before .before .order-of .ensures)) (c .length-rows .ensures)
 
 pub length-spec : {M : Type 1} → statement M
 length-spec =
@@ -49,7 +49,7 @@ length-spec =
     read-requires
     enum-known-s
     enum-told
-    closed-requires
+    order-of-requires
     length-rows-requires
     returns
     returns-2)

@@ -21,7 +21,7 @@ use Rattle.form.proofs.length_rows.Lts as lts
 use Rattle.first_n.proofs.first_n.Reads as first-n-reads
 use Rattle.graph.proofs.transposed.Reads as transposed-reads
 use Rattle.sets.proofs.below32.Reads as below32-reads
-use Rattle.form.proofs.put_text.Reads as put-text-reads
+use Rattle.split.proofs.put_form.Reads as put-form-reads
 
 -- the search found nothing
 none-first : (c : tie.After-below32) → firstN (ahead (c .before .before .before .before .before .before .args .rows .now)) (c .before .before .before .before .before .before .args .n) ≡ none
@@ -30,14 +30,14 @@ none-first c = sym (c .before .before .before .first-n .ensures) ∙ ap found (c
 -- what the writer of the form asks, and what it writes
 asks : (c : tie.After-below32) →
     Ordered (c .before .before .before .before .before .before .args .rows .now) (c .before .before .before .before .before .transposed .result) (c .below32 .result)
-    × (0 + length (formText false (c .before .before .before .before .before .before .args .rows .now) (c .below32 .result)) < 2 ^ 63)
+    × (0 + length (formText 32 false (c .before .before .before .before .before .before .args .rows .now) (c .below32 .result)) < 2 ^ 63)
 asks c =
     let s = c .before .before .before .before .before .before in (
       ordered _ _ _ _ (s .pre .0) (s .pre .1) (s .pre .2) (none-first c) (c .before .before .before .before .before .transposed .ensures) (c .below32 .ensures),
       room _ _ _ _ (s .pre .0) (s .pre .1) (s .pre .2) (none-first c) (c .before .before .before .before .before .transposed .ensures) (c .below32 .ensures),
     )
 
-the-text : (c : tie.After-below32) → formText false (c .before .before .before .before .before .before .args .rows .now) (c .below32 .result) ≡ text (formAny (ahead (c .before .before .before .before .before .before .args .rows .now)) (c .before .before .before .before .before .before .args .n))
+the-text : (c : tie.After-below32) → formText 32 false (c .before .before .before .before .before .before .args .rows .now) (c .below32 .result) ≡ text (formAny (ahead (c .before .before .before .before .before .before .args .rows .now)) (c .before .before .before .before .before .before .args .n))
 the-text c =
     let s = c .before .before .before .before .before .before in
     text-is _ _ _ _ (s .pre .0) (s .pre .1) (s .pre .2) (none-first c) (c .before .before .before .before .before .transposed .ensures) (c .below32 .ensures)
@@ -62,11 +62,11 @@ enum-told c = search needs
 below32-requires : tie.Need-below32-requires
 below32-requires c κs = search needs
 
-slice-aggregate-put-text : tie.Need-slice-aggregate-put-text
-slice-aggregate-put-text c = search needs
+slice-aggregate-put-form : tie.Need-slice-aggregate-put-form
+slice-aggregate-put-form c = search needs
 
-put-text-requires : tie.Need-put-text-requires
-put-text-requires c κs = asks (c .before .before)
+put-form-requires : tie.Need-put-form-requires
+put-form-requires c κs = asks (c .before .before)
 
 returns : tie.Need-returns
 returns c = estimated-none _ _ (settled-some _ _ (sym (c .before .before .before .first-n .ensures) ∙ ap found (c .before .found .given .1)))
@@ -74,8 +74,8 @@ returns c = estimated-none _ _ (settled-some _ _ (sym (c .before .before .before
 returns-2 : tie.Need-returns-2
 returns-2 c =
     let d = c .before .before .before .before in
-    let place = c .before .put-text .ensures .place in
-    let need : c .before .put-text .result ≡ length (text (formAny (ahead (d .before .before .before .before .before .before .args .rows .now)) (d .before .before .before .before .before .before .args .n))) = omega (arith, place, ap length (the-text d)) in
+    let place = c .before .put-form .ensures .place in
+    let need : c .before .put-form .result ≡ length (text (formAny (ahead (d .before .before .before .before .before .before .args .rows .now)) (d .before .before .before .before .before .before .args .n))) = omega (arith, place, ap length (the-text d)) in
     estimated-text _ _ _ (settled-none _ (none-first d)) need (omega (arith, need, short d))
 
 pub length-rows-spec : {M : Type 1} → statement M
@@ -87,7 +87,7 @@ length-rows-spec =
     enum-known-found
     enum-told
     below32-requires
-    slice-aggregate-put-text
-    put-text-requires
+    slice-aggregate-put-form
+    put-form-requires
     returns
     returns-2)

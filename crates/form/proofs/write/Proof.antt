@@ -10,7 +10,7 @@ use Rattle.form.proofs.write.Statement.{statement}
 use Rattle.form.proofs.write.Tie as tie
 use Rattle.form.proofs.write.Reads as reads
 use Rattle.form.proofs.write.Lts as lts
-use Rattle.form.proofs.closed.Reads as closed-reads
+use Rattle.order.proofs.order_of.Reads as order-of-reads
 use Rattle.form.proofs.write_rows.Reads as write-rows-reads
 use Rattle.decoding.proofs.read.Reads as read-reads
 
@@ -27,13 +27,13 @@ enum-known-s c = search needs
 enum-told : tie.Need-enum-told
 enum-told c = search needs
 
-closed-requires : tie.Need-closed-requires
-closed-requires c κs =
+order-of-requires : tie.Need-order-of-requires
+order-of-requires c κs =
     let t = c .before .before in
-    (goals-to _ (fine t), t .before .before .read .ensures .1 (t .enum-told .given .1))
+    (goals-to _ (fine t), t .before .before .read .ensures .1 .0 (t .enum-told .given .1))
 
 write-rows-requires : tie.Need-write-rows-requires
-write-rows-requires c κs = graph-asks _ (fine (c .before .before .before .before .before .before)) _ (c .before .before .before .closed .ensures)
+write-rows-requires c κs = graph-asks _ (fine (c .before .before .before .before .before .before)) _ (c .before .before .before .order-of .ensures)
 
 returns : tie.Need-returns
 returns c =
@@ -45,7 +45,7 @@ same-length c = search needs
 
 returns-2 : tie.Need-returns-2
 returns-2 c =
-    let e = graph-plan _ (fine (c .before .before .before .before .before .before .before .before .before)) _ (c .before .before .before .before .before .before .closed .ensures) in
+    let e = graph-plan _ (fine (c .before .before .before .before .before .before .before .before .before)) _ (c .before .before .before .before .before .before .order-of .ensures) in
     let buf = c .before .before .before .before .before .before .before .before .before .before .before .before .before .before .before .before .args .out .now in (
       c .before .before .write-rows .ensures .0 ∙ ap (λ (p : Plan). answer p buf) e,
       c .before .before .write-rows .ensures .1 ∙ ap (λ (p : Plan). filled p buf) e,
@@ -58,7 +58,7 @@ write-spec =
     read-requires
     enum-known-s
     enum-told
-    closed-requires
+    order-of-requires
     write-rows-requires
     returns
     same-length

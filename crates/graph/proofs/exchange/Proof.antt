@@ -1,9 +1,10 @@
 use borrow.Author.Needs.{needs}
 use native.Mathlib.Omega.{arith}
-use Prim.Native.Nat.{_-_}
-use denote.Ref.{now}
+use Prim.Native.Nat.{_+_, _-_, _*_, _<_}
+use borrow.Author.Tests.{le-ltb}
+use Rattle.graph.specs.Exchange.{round}
 use Rattle.graph.proofs.Widths.{width-some, next-block}
-use Rattle.graph.proofs.Turning.{Through, through-start, through-step, through-end, through-none, within-none}
+use Rattle.graph.proofs.Turning.{Through, through-start, through-step, through-end}
 use Rattle.graph.proofs.exchange.Statement.{statement}
 use Rattle.graph.proofs.exchange.Tie as tie
 use Rattle.graph.proofs.exchange.Reads as reads
@@ -11,19 +12,19 @@ use Rattle.graph.proofs.exchange.Lts as lts
 use Rattle.graph.proofs.exchange_block.Reads as exchange-block-reads
 
 abbrev Inv-loop : tie.InvT-loop
-Inv-loop rows₀ n width half start₀ rows start = Through width rows₀ start rows
+Inv-loop rows₀ n width half start₀ rows start = Through width rows₀ start rows × (start < n + 2 * width)
 
 abbrev μ-loop : tie.MeasureT-loop
 μ-loop rows₀ n width half start₀ rows start = n - start
 
 loop-holds : tie.Need-loop-holds Inv-loop μ-loop
-loop-holds c = through-start _ (c .before .pre .0) _ (c .before .pre .3)
+loop-holds c = let w = width-some _ (c .before .pre .0) in (through-start _ (c .before .pre .0) _ (c .before .pre .3), omega arith)
 
 exchange-block-requires : tie.Need-exchange-block-requires Inv-loop μ-loop
 exchange-block-requires c κs =
     let s = c .before .before .before .before in
     let l = c .before .before .loop in
-    (s .pre .0, s .pre .1, l .inv .whole, next-block _ (s .pre .0) _ (l .inv .whole) (omega arith) .1, l .inv .words)
+    (s .pre .0, s .pre .1, l .inv .0 .whole, next-block _ (s .pre .0) _ (l .inv .0 .whole) (omega arith) .1, l .inv .0 .words)
 
 add-start : tie.Need-add-start Inv-loop μ-loop
 add-start c =
@@ -44,18 +45,17 @@ loop-again : tie.Need-loop-again Inv-loop μ-loop
 loop-again c =
     let s = c .before .before .before .before .before in
     let l = c .before .before .before .loop in
-    through-step _ (s .pre .0) _ _ _ (l .inv) _ (omega arith) (c .exchange-block .ensures)
+    (through-step _ (s .pre .0) _ _ _ (l .inv .0) _ (omega arith) (c .exchange-block .ensures), omega arith)
 
 returns : tie.Need-returns Inv-loop μ-loop
 returns c =
     let s = c .before .before .before in
     let l = c .before .loop in
-    (λ old e. through-end _ (s .pre .0) _ old (within-none _ old (s .pre .2) e) _ _ _ (l .inv) (c .loop-test .left), l .inv .words)
+    through-end _ (s .pre .0) _ _ _ _ (l .inv .0) (c .loop-test .left) (l .inv .1) (c .before .before .if1 .taken)
 
 returns-2 : tie.Need-returns-2 Inv-loop μ-loop
-returns-2 c =
-    let s = c .before in
-    (λ old e. through-none _ (s .pre .0) _ old (within-none _ old (s .pre .2) e) (now (s .args .rows)) (c .if1 .left), s .pre .3)
+unfolding round
+returns-2 c = rw (le-ltb _ _ (c .if1 .left))
 
 pub exchange-spec : {M : Type 1} → statement M
 exchange-spec =

@@ -19,7 +19,7 @@ returns : tie.Need-returns
 unfolding J.apart
 returns c =
     let a = c .before .before .before .args in
-    c .common .ensures ∙ ap (common (now (a .rows)) 64) (c .before .without .ensures ∙ ap (without (a .a)) (c .before .before .union .ensures))
+    c .common .ensures ∙ ap (common (now (a .listed)) 64) (c .before .without .ensures ∙ ap (without (a .set)) (c .before .before .union .ensures))
 
 pub apart-spec : {M : Type 1} → statement M
 apart-spec = tie.close (tie.spec union-requires without-requires common-requires returns)

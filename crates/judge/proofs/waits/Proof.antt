@@ -1,33 +1,28 @@
 use borrow.Author.Needs.{needs}
-use mathlib.Core.Path.{ap, _∙_}
+use mathlib.Core.Path.{ap, ap₂, _∙_}
 use mathlib.Core.Bool.{not}
 use Prim.Native.Nat.{ℕ}
-use denote.Ref.{now}
-use Rattle.sets.specs.Sets.{union, without, subset}
-use Rattle.judge.proofs.ClearSet.{waits-masks}
+use native.Mathlib.Omega.{arith}
+use lib.Dec.{eqb}
+use Rattle.sets.specs.Sets.{union}
+use Rattle.judge.proofs.ByHalves.{tied-halves}
 use Rattle.judge.proofs.waits.Statement.{statement}
 use Rattle.judge.proofs.waits.Tie as tie
 
-union-requires : tie.Need-union-requires
-union-requires c κs = search needs
+meet32-requires : tie.Need-meet32-requires
+meet32-requires c κs = search needs
 
-without-requires : tie.Need-without-requires
-without-requires c κs = search needs
+meet32-requires-2 : tie.Need-meet32-requires-2
+meet32-requires-2 c κs = search needs
 
-union-requires-2 : tie.Need-union-requires-2
-union-requires-2 c κs = search needs
-
-subset-requires : tie.Need-subset-requires
-subset-requires c κs = search needs
+union32-requires : tie.Need-union32-requires
+union32-requires c κs = search needs
 
 returns : tie.Need-returns
 returns c =
-    let s = c .before .before .before .before in
-    let a = s .args in
-    let loose = c .before .before .before .union .ensures ∙ ap (union (a .free)) (s .pre) in
-    let clear = c .before .union2 .ensures ∙ ap (union (a .ground)) (c .before .before .without .ensures ∙ ap (λ (m : ℕ). without m (a .a)) loose) in
-    ap not (c .subset .ensures ∙ ap (subset (a .b)) clear)
-    ∙ waits-masks (a .ground) (a .free) (now (a .rows)) 64 (a .a) (a .b) (s .fits .ground .fits) (s .fits .free .fits) (s .fits .b .fits)
+    let s = c .before .before .before in
+    ap (λ (m : ℕ). not (eqb m 0)) (c .union32 .ensures ∙ ap₂ union (c .before .before .meet32 .ensures) (c .before .meet322 .ensures))
+    ∙ tied-halves 32 (s .args .ties) (s .args .later) (omega arith) (omega arith)
 
 pub waits-spec : {M : Type 1} → statement M
-waits-spec = tie.close (tie.spec union-requires without-requires union-requires-2 subset-requires returns)
+waits-spec = tie.close (tie.spec meet32-requires meet32-requires-2 union32-requires returns)

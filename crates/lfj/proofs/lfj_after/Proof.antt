@@ -1,3 +1,4 @@
+use native.Mathlib.Omega.{arith}
 use Rattle.record.proofs.WellFormed.{fine-well-formed}
 use Rattle.annotator.proofs.Answers.{tested, in-range}
 use Rattle.lfj.proofs.After.{accepted, after-refused, after-outside, after-row}
@@ -31,7 +32,8 @@ row-requires c κs =
     let b = c .before .before .before .before .before .before .before .before .args .bytes .now in
     let g = c .before .before .before .before .before .before .before .before .args .goal in
     let fine = accepted b (c .before .before .before .before .before .before .order .ensures .0) (c .before .before .before .before .reading2 .given .1) in
-    in-range b g (fine-well-formed b (fine .0)) (tested b g (c .before .before .inside .ensures) (c .before .if1 .taken) (fine .1))
+    let r = in-range b g (fine-well-formed b (fine .0)) (tested b g (c .before .before .inside .ensures) (c .before .if1 .taken) (fine .1)) in
+    (omega arith, omega arith)
 
 cast-result : tie.Need-cast-result
 cast-result c = search needs

@@ -22,7 +22,7 @@ fine c = sym (c .before .before .read .ensures .0) ∙ c .enum-told .given .1
 count : (c : tie.After-size-of) → c .size-of .result ≡ goalCount (now (c .before .before .before .before .before .before .before .before .before .args .b))
 count c = c .size-of .ensures .0 ∙ c .before .byte .ensures
 
-size : (c : tie.After-size-of) (goals : List ℕ) → goals ≡ goalSets (now (c .before .before .before .before .before .before .before .before .before .args .b)) → length (take (c .size-of .result) goals) ≡ goalCount (now (c .before .before .before .before .before .before .before .before .before .args .b))
+size : (c : tie.After-size-of) (goals : List ℕ) → goals ≡ goalSets 32 (now (c .before .before .before .before .before .before .before .before .before .args .b)) → length (take (c .size-of .result) goals) ≡ goalCount (now (c .before .before .before .before .before .before .before .before .before .args .b))
 size c goals e = facts-length _ (fine-well-formed _ (fine (c .before .before)) .goals-to) _ goals (count c) e
 
 read-requires : tie.Need-read-requires
@@ -50,14 +50,14 @@ array-share-prefix-goals : tie.Need-array-share-prefix-goals
 array-share-prefix-goals c =
     let n = c .before .before .before in
     let t = n .before .before in
-    let held = t .before .before .read .ensures .1 (t .enum-told .given .1) in
+    let held = t .before .before .read .ensures .1 .0 (t .enum-told .given .1) in
     omega (arith, count n, facts-room _ _ (held .0), fine-well-formed _ (fine t) .goals-to)
 
 slice-aggregate-write-clause : tie.Need-slice-aggregate-write-clause
 slice-aggregate-write-clause c =
     let n = c .before .before .before .before in
     let t = n .before .before in
-    let held = t .before .before .read .ensures .1 (t .enum-told .given .1) in
+    let held = t .before .before .read .ensures .1 .0 (t .enum-told .given .1) in
     count n ∙ sym (size n _ (held .0))
 
 slice-aggregate-write-clause-2 : tie.Need-slice-aggregate-write-clause-2
@@ -66,13 +66,13 @@ slice-aggregate-write-clause-2 c = search needs
 slice-aggregate-write-clause-3 : tie.Need-slice-aggregate-write-clause-3
 slice-aggregate-write-clause-3 c =
     let t = c .before .before .before .before .before .before .before .before in
-    sym (facts-rows _ _ (t .before .before .read .ensures .1 (t .enum-told .given .1) .1))
+    sym (facts-rows _ _ (t .before .before .read .ensures .1 .0 (t .enum-told .given .1) .1))
 
 write-clause-requires : tie.Need-write-clause-requires
 write-clause-requires c κs =
     let n = c .before .before .before .before .before .before in
     let t = n .before .before in
-    let held = t .before .before .read .ensures .1 (t .enum-told .given .1) in
+    let held = t .before .before .read .ensures .1 .0 (t .enum-told .given .1) in
     let w = fine-well-formed _ (fine t) in
     (omega (arith, size n _ (held .0), w .goals-from), omega (arith, size n _ (held .0), w .goals-to))
 
@@ -86,7 +86,7 @@ returns-2 : tie.Need-returns-2
 returns-2 c =
     let n = c .before .before .before .before .before .before .before .before .before in
     let t = n .before .before in
-    let held = t .before .before .read .ensures .1 (t .enum-told .given .1) in
+    let held = t .before .before .read .ensures .1 .0 (t .enum-told .given .1) in
     let head = c .before .before .before .before .before .before .before .before .set-at .ensures in
     let ground = c .before .before .before .before .before .before .before .set-at2 .ensures in
     let text = facts-text _ (fine-well-formed _ (fine t) .goals-to) _ _ _ _ _ (count n) head ground held in

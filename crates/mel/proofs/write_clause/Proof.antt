@@ -23,26 +23,26 @@ vars : (c : tie.After-count) →
     c .before .goal .result ≡ M.once (now (a .sets)) 0 (length (now (a .sets)))
 vars c =
     let a = c .before .before .before .before .before .before .before .before .before .args in
-    c .before .goal .ensures ∙ ap (λ (l : List ℕ). W.goal l (length (now (a .sets)) + 1)) (c .before .before .before .before .up-to .ensures) ∙ before-next _ _ (omega arith) (omega arith)
+    c .before .goal .ensures ∙ ap (λ (l : List ℕ). W.goal l (length (now (a .sets)) + 1)) (c .before .before .before .before .up-to .ensures) ∙ before-next 33 _ _ (omega arith) (omega arith)
 
 -- no text is longer than the bound
 bound : (c : tie.After-most) →
     let a = c .before .before .before .before .before .before .before .before .before .before .args in
-    length (X.melText (a .head) (now (a .sets)) (now (a .grounds)) (now (a .rows))) ≤ c .most .result
+    length (X.melText 64 (a .head) (now (a .sets)) (now (a .grounds)) (now (a .rows))) ≤ c .most .result
 bound c = rw (c .most .ensures, c .before .count .ensures) (text-most _ _ _ _ _ (c .before .before .goal .ok) (vars (c .before)))
 
 -- the text's length, where it is written and where it is found first
 written : (c : tie.After-put-stages) →
     let a = c .before .before .before .before .before .before .before .before .before .before .before .before .before .before .args in
-    c .put-stages .result ≡ length (X.melText (a .head) (now (a .sets)) (now (a .grounds)) (now (a .rows)))
+    c .put-stages .result ≡ length (X.melText 64 (a .head) (now (a .sets)) (now (a .grounds)) (now (a .rows)))
 written c =
     let a = c .before .before .before .before .before .before .before .before .before .before .before .before .before .before .args in
-    omega (arith, c .put-stages .ensures .place, ap length (mel-text (a .head) (now (a .sets)) (now (a .grounds)) (now (a .rows))))
+    omega (arith, c .put-stages .ensures .place, ap length (mel-text 64 (a .head) (now (a .sets)) (now (a .grounds)) (now (a .rows))))
 
 needed : (c : tie.After-stages-length) →
     let a = c .before .before .before .before .before .before .before .before .before .before .before .before .before .args in
-    c .stages-length .result ≡ length (X.melText (a .head) (now (a .sets)) (now (a .grounds)) (now (a .rows)))
-needed c = c .stages-length .ensures ∙ ap length (mel-text _ _ _ _)
+    c .stages-length .result ≡ length (X.melText 64 (a .head) (now (a .sets)) (now (a .grounds)) (now (a .rows)))
+needed c = c .stages-length .ensures ∙ ap length (mel-text 64 _ _ _ _)
 
 up-to-requires : tie.Need-up-to-requires
 up-to-requires c κs = search needs
@@ -66,7 +66,7 @@ slice-aggregate-put-stages : tie.Need-slice-aggregate-put-stages
 slice-aggregate-put-stages c = search needs
 
 put-stages-requires : tie.Need-put-stages-requires
-put-stages-requires c κs = let a = c .before .before .before .before .before .before .before .before .before .before .before .before .before .args in ((omega arith, (omega arith, omega arith)), (c .before .before .before .before .before .before .before .before .up-to .ensures, omega (arith, bound (c .before .before .before), ap length (mel-text (a .head) (now (a .sets)) (now (a .grounds)) (now (a .rows))))))
+put-stages-requires c κs = let a = c .before .before .before .before .before .before .before .before .before .before .before .before .before .args in ((omega arith, (omega arith, omega arith)), (c .before .before .before .before .before .before .before .before .up-to .ensures, omega (arith, bound (c .before .before .before), ap length (mel-text 64 (a .head) (now (a .sets)) (now (a .grounds)) (now (a .rows))))))
 
 same-length : tie.Need-same-length
 same-length c = search needs
@@ -74,14 +74,14 @@ same-length c = search needs
 returns : tie.Need-returns
 returns c = (
   accepted _ _ _ (written (c .before .before)) (omega (arith, bound (c .before .before .before .before .before .before), written (c .before .before))),
-  stores (recast (mel-text _ _ _ _) (c .before .before .put-stages .ensures)) (omega (arith, bound (c .before .before .before .before .before .before))),
+  stores (recast (mel-text 64 _ _ _ _) (c .before .before .put-stages .ensures)) (omega (arith, bound (c .before .before .before .before .before .before))),
 )
 
 slice-aggregate-stages-length : tie.Need-slice-aggregate-stages-length
 slice-aggregate-stages-length c = search needs
 
 stages-length-requires : tie.Need-stages-length-requires
-stages-length-requires c κs = let a = c .before .before .before .before .before .before .before .before .before .before .before .before .args in ((omega arith, (omega arith, omega arith)), (c .before .before .before .before .before .before .before .up-to .ensures, text-fits (a .head) (now (a .sets)) (now (a .grounds)) (now (a .rows)) (length (now (a .sets))) (omega arith)))
+stages-length-requires c κs = let a = c .before .before .before .before .before .before .before .before .before .before .before .before .args in ((omega arith, (omega arith, omega arith)), (c .before .before .before .before .before .before .before .up-to .ensures, text-fits 64 (a .head) (now (a .sets)) (now (a .grounds)) (now (a .rows)) (length (now (a .sets))) (omega arith) (omega arith)))
 
 returns-2 : tie.Need-returns-2
 returns-2 c = (too-short _ _ _ (needed (c .before)) (omega arith), keeps _ _ (omega (arith, needed (c .before))))
@@ -98,7 +98,7 @@ same-length-2 c = search needs
 returns-3 : tie.Need-returns-3
 returns-3 c = (
   accepted _ _ _ (needed (c .before .before .before .before .before .before)) (omega arith),
-  stores (recast (mel-text _ _ _ _) (c .before .before .put-stages2 .ensures)) (omega (arith, needed (c .before .before .before .before .before .before))),
+  stores (recast (mel-text 64 _ _ _ _) (c .before .before .put-stages2 .ensures)) (omega (arith, needed (c .before .before .before .before .before .before))),
 )
 
 pub write-clause-spec : {M : Type 1} → statement M

@@ -20,10 +20,10 @@ cast-b : tie.Need-cast-b
 cast-b c = search needs
 
 returns : tie.Need-returns
-returns c = num-bad (c .before .before .before .args .text .now) (c .before .before .before .args .at) (c .before .before .before .pre) (inl (omega (arith, c .before .peek .ensures, c .if1 .taken)))
+returns c = num-bad 32 (c .before .before .before .args .text .now) (c .before .before .before .args .at) (c .before .before .before .pre) (inl (omega (arith, c .before .peek .ensures, c .if1 .taken)))
 
 returns-2 : tie.Need-returns-2
-returns-2 c = num-bad (c .before .before .before .before .args .text .now) (c .before .before .before .before .args .at) (c .before .before .before .before .pre) (inr (omega (arith, c .before .before .peek .ensures, c .if2 .taken)))
+returns-2 c = num-bad 32 (c .before .before .before .before .args .text .now) (c .before .before .before .before .args .at) (c .before .before .before .before .pre) (inr (omega (arith, c .before .before .peek .ensures, c .if2 .taken)))
 
 add-peek : tie.Need-add-peek
 add-peek c = let l = byte-inside (c .before .before .before .before .args .text .now) (c .before .before .before .before .args .at) _ (omega (arith, c .before .before .peek .ensures, c .before .if1 .left)) refl in omega arith
@@ -44,7 +44,7 @@ goal-requires : tie.Need-goal-requires
 goal-requires c κs = search needs
 
 returns-3 : tie.Need-returns-3
-returns-3 c = subst (λ z. Numbered (c .before .before .before .before .before .before .before .args .text .now) (c .before .before .before .before .before .before .before .args .at) z) (sym (c .goal .ensures)) (num-one (c .before .before .before .before .before .before .before .args .text .now) (c .before .before .before .before .before .before .before .args .at) (c .before .before .before .before .before .peek .result - 48) (omega (arith, c .before .before .before .before .if1 .left)) (omega (arith, c .before .before .before .if2 .left)) (omega (arith, c .before .before .before .before .before .peek .ensures, c .before .before .before .before .if1 .left)) (inl (omega (arith, c .before .before .peek2 .ensures, c .before .if3 .taken))))
+returns-3 c = subst (λ z. Numbered 32 (c .before .before .before .before .before .before .before .args .text .now) (c .before .before .before .before .before .before .before .args .at) z) (sym (c .goal .ensures)) (num-one 32 (c .before .before .before .before .before .before .before .args .text .now) (c .before .before .before .before .before .before .before .args .at) (c .before .before .before .before .before .peek .result - 48) (omega (arith, c .before .before .before .before .if1 .left)) (omega (arith, c .before .before .before .if2 .left)) (omega (arith, c .before .before .before .before .before .peek .ensures, c .before .before .before .before .if1 .left)) (inl (omega (arith, c .before .before .peek2 .ensures, c .before .if3 .taken))))
 
 sub-goal-2 : tie.Need-sub-goal-2
 sub-goal-2 c = search needs
@@ -56,7 +56,7 @@ goal-requires-2 : tie.Need-goal-requires-2
 goal-requires-2 c κs = search needs
 
 returns-4 : tie.Need-returns-4
-returns-4 c = subst (λ z. Numbered (c .before .before .before .before .before .before .before .before .args .text .now) (c .before .before .before .before .before .before .before .before .args .at) z) (sym (c .goal2 .ensures)) (num-one (c .before .before .before .before .before .before .before .before .args .text .now) (c .before .before .before .before .before .before .before .before .args .at) (c .before .before .before .before .before .before .peek .result - 48) (omega (arith, c .before .before .before .before .before .if1 .left)) (omega (arith, c .before .before .before .before .if2 .left)) (omega (arith, c .before .before .before .before .before .before .peek .ensures, c .before .before .before .before .before .if1 .left)) (inr (omega (arith, c .before .before .before .peek2 .ensures, c .before .if4 .taken))))
+returns-4 c = subst (λ z. Numbered 32 (c .before .before .before .before .before .before .before .before .args .text .now) (c .before .before .before .before .before .before .before .before .args .at) z) (sym (c .goal2 .ensures)) (num-one 32 (c .before .before .before .before .before .before .before .before .args .text .now) (c .before .before .before .before .before .before .before .before .args .at) (c .before .before .before .before .before .before .peek .result - 48) (omega (arith, c .before .before .before .before .before .if1 .left)) (omega (arith, c .before .before .before .before .if2 .left)) (omega (arith, c .before .before .before .before .before .before .peek .ensures, c .before .before .before .before .before .if1 .left)) (inr (omega (arith, c .before .before .before .peek2 .ensures, c .before .if4 .taken))))
 
 sub-goal-3 : tie.Need-sub-goal-3
 sub-goal-3 c = search needs
@@ -74,7 +74,7 @@ goal-requires-3 : tie.Need-goal-requires-3
 goal-requires-3 c κs = search needs
 
 returns-5 : tie.Need-returns-5
-returns-5 c = subst (λ z. Numbered (c .before .before .before .before .before .before .before .before .args .text .now) (c .before .before .before .before .before .before .before .before .args .at) z) (sym (c .goal3 .ensures)) (num-two (c .before .before .before .before .before .before .before .before .args .text .now) (c .before .before .before .before .before .before .before .before .args .at) (c .before .before .before .before .before .before .peek .result - 48) (c .before .before .before .peek2 .result - 48) (omega (arith, c .before .before .before .before .before .if1 .left)) (omega (arith, c .before .before .before .before .if2 .left)) (omega (arith, c .before .if4 .left)) (omega (arith, c .before .before .before .before .before .before .peek .ensures, c .before .before .before .before .before .if1 .left)) (omega (arith, c .before .before .before .peek2 .ensures, c .before .before .if3 .left)))
+returns-5 c = subst (λ z. Numbered 32 (c .before .before .before .before .before .before .before .before .args .text .now) (c .before .before .before .before .before .before .before .before .args .at) z) (sym (c .goal3 .ensures)) (num-two 32 (c .before .before .before .before .before .before .before .before .args .text .now) (c .before .before .before .before .before .before .before .before .args .at) (c .before .before .before .before .before .before .peek .result - 48) (c .before .before .before .peek2 .result - 48) (omega (arith, c .before .before .before .before .before .if1 .left)) (omega (arith, c .before .before .before .before .if2 .left)) (omega (arith, c .before .if4 .left)) (omega (arith, c .before .before .before .before .before .before .peek .ensures, c .before .before .before .before .before .if1 .left)) (omega (arith, c .before .before .before .peek2 .ensures, c .before .before .if3 .left)))
 
 pub number-spec : {M : Type 1} → statement M
 number-spec =

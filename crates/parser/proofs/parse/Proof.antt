@@ -16,13 +16,13 @@ enum-known-part-2 : tie.Need-enum-known-part-2
 enum-known-part-2 c = search needs
 
 returns : tie.Need-returns
-returns c = whole-bad (c .before .before .before .before .before .before .before .args .text .now) (c .before .before .before .before .before .before .before .args .rows .now) _ _ (c .before .before .before .sequence .ensures) _ (c .before .part .given .1)
+returns c = whole-bad 32 (c .before .before .before .before .before .before .before .args .text .now) (c .before .before .before .before .before .before .before .args .rows .now) _ _ (c .before .before .before .sequence .ensures) _ (c .before .part .given .1)
 
 returns-2 : tie.Need-returns-2
-returns-2 c = whole-left (c .before .before .before .before .before .before .before .before .args .text .now) (c .before .before .before .before .before .before .before .before .args .rows .now) _ _ (c .before .before .before .before .sequence .ensures) _ (c .before .before .part2 .given .1) (c .if1 .taken)
+returns-2 c = whole-left 32 (c .before .before .before .before .before .before .before .before .args .text .now) (c .before .before .before .before .before .before .before .before .args .rows .now) _ _ (c .before .before .before .before .sequence .ensures) _ (c .before .before .part2 .given .1) (c .if1 .taken)
 
 returns-3 : tie.Need-returns-3
-returns-3 c = whole-done (c .before .before .before .before .before .before .before .before .args .text .now) (c .before .before .before .before .before .before .before .before .args .rows .now) _ _ (c .before .before .before .before .sequence .ensures) _ (c .before .before .part2 .given .1) (c .if1 .left)
+returns-3 c = whole-done 32 (c .before .before .before .before .before .before .before .before .args .text .now) (c .before .before .before .before .before .before .before .before .args .rows .now) _ _ (c .before .before .before .before .sequence .ensures) _ (c .before .before .part2 .given .1) (c .if1 .left)
 
 pub parse-spec : {M : Type 1} → statement M
 parse-spec =

@@ -4,18 +4,21 @@ use lib.ListN.{length}
 use borrow.Author.Needs.{needs}
 use Rattle.sets.specs.Sets.{members}
 use Rattle.sets.proofs.Members.{first-in}
-use Rattle.rows.proofs.Linking.{Linking, linking-start, linking-turn, linking-less, linking-end}
+use Rattle.rows.proofs.Linking.{Linking, linked-none, linking-start, linking-turn, linking-less, linking-end}
 use Rattle.rows.proofs.link.Statement.{statement}
 use Rattle.rows.proofs.link.Tie as tie
 
 abbrev Inv-loop : tie.InvT-loop
-Inv-loop rows₀ front later left₀ rows left = Linking front later rows₀ rows left
+Inv-loop rows₀ front later left₀ rows left = Linking 32 front later rows₀ rows left
 
 abbrev μ-loop : tie.MeasureT-loop
 μ-loop rows₀ front later left₀ rows left = length (members 32 left)
 
+returns : tie.Need-returns Inv-loop μ-loop
+returns c = linked-none 32 _ _ _ (c .if1 .taken) (search needs)
+
 loop-holds : tie.Need-loop-holds Inv-loop μ-loop
-loop-holds c = linking-start _ _ _ (c .pre) (search needs)
+loop-holds c = linking-start 32 _ _ _ (c .before .pre) (search needs)
 
 first32-requires : tie.Need-first32-requires Inv-loop μ-loop
 first32-requires c κs = search needs
@@ -46,17 +49,17 @@ without-first32-requires c κs = c .before .before .loop-test .taken
 loop-less : tie.Need-loop-less Inv-loop μ-loop
 loop-less c =
     let l = c .before .before .before .before .loop in
-    linking-less _ _ _ (l .left) _ (c .without-first32 .ensures) _ (c .before .before .before .loop-test .taken) (l .inv)
+    linking-less 32 _ _ _ (l .left) _ (c .without-first32 .ensures) _ (c .before .before .before .loop-test .taken) (l .inv)
 
 -- src/lib.rt
 loop-again : tie.Need-loop-again Inv-loop μ-loop
 loop-again c =
     let l = c .before .before .before .before .loop in
-    linking-turn _ _ _ (l .rows) (l .left) _ _ (c .before .before .first32 .ensures) (c .without-first32 .ensures) (search needs) (c .before .before .before .loop-test .taken) (l .inv)
+    linking-turn 32 _ _ _ (l .rows) (l .left) _ _ (c .before .before .first32 .ensures) (c .without-first32 .ensures) (search needs) (c .before .before .before .loop-test .taken) (l .inv)
 
 -- src/lib.rt
-returns : tie.Need-returns Inv-loop μ-loop
-returns c = linking-end _ _ _ _ _ (search needs) (c .before .loop .inv)
+returns-2 : tie.Need-returns-2 Inv-loop μ-loop
+returns-2 c = linking-end 32 _ _ _ _ _ (search needs) (c .before .loop .inv)
 
 pub link-spec : {M : Type 1} → statement M
 link-spec =
@@ -64,6 +67,7 @@ link-spec =
     (tie.spec
     Inv-loop
     μ-loop
+    returns
     loop-holds
     first32-requires
     mul-rows
@@ -73,4 +77,4 @@ link-spec =
     without-first32-requires
     loop-less
     loop-again
-    returns)
+    returns-2)

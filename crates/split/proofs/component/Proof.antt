@@ -1,12 +1,12 @@
 use borrow.Author.Needs.{needs}
 use Prim.Native.Nat.{_^_, _<_}
 use Rattle.sets.specs.Sets.{union, count}
-use Rattle.split.proofs.Grow.{Growing, grow-alone, grow-begin, grow-step, grow-done}
+use Rattle.split.proofs.Grow.{alone, Growing, grow-alone, grow-begin, grow-step, grow-done}
 use Rattle.split.proofs.component.Statement.{statement}
 use Rattle.split.proofs.component.Tie as tie
 use Rattle.split.proofs.component.Reads as reads
 use Rattle.split.proofs.component.Lts as lts
-use Rattle.sets.proofs.single32.Reads as single32-reads
+use Rattle.graph.proofs.Graph.single.Reads as single-reads
 use Rattle.sets.proofs.without32.Reads as without32-reads
 use Rattle.split.proofs.hanging.Reads as hanging-reads
 use Rattle.split.proofs.pending.Reads as pending-reads
@@ -25,10 +25,13 @@ facts : (c : tie.After-pending2 Inv-loop μ-loop) →
 facts c =
     let s = c .before .before .before .before .before .before .before .before .before .before .before in
     let l : s .args .set < 2 ^ 32 = search needs in
-    grow-step _ _ _ _ (s .pre .2) _ l (c .before .before .before .before .loop .inv) (c .before .before .before .loop-test .taken) (c .before .before .hanging-any .ensures) (c .before .without323 .ensures) (c .pending2 .ensures)
+    grow-step _ _ _ _ (s .pre .2) _ 32 l (c .before .before .before .before .loop .inv) (c .before .before .before .loop-test .taken) (c .before .before .hanging-any .ensures) (c .before .without323 .ensures) (c .pending2 .ensures)
 
-single32-requires : tie.Need-single32-requires Inv-loop μ-loop
-single32-requires c κs = search needs
+add-single : tie.Need-add-single Inv-loop μ-loop
+add-single c = search needs
+
+single-requires : tie.Need-single-requires Inv-loop μ-loop
+single-requires c κs = search needs
 
 without32-requires : tie.Need-without32-requires Inv-loop μ-loop
 without32-requires c κs = search needs
@@ -39,7 +42,7 @@ hanging-requires c κs = search needs
 returns : tie.Need-returns Inv-loop μ-loop
 returns c =
     let s = c .before .before .before .before in
-    grow-alone _ _ _ _ (s .pre .2) _ (s .pre .1) (c .before .before .before .single32 .ensures) (c .before .before .without32 .ensures) (c .before .hanging .ensures) (c .if1 .taken)
+    grow-alone _ _ _ _ (s .pre .2) _ (s .pre .1) (alone _ (c .before .before .before .single .ensures)) (c .before .before .without32 .ensures) (c .before .hanging .ensures) (c .if1 .taken)
 
 without32-requires-2 : tie.Need-without32-requires-2 Inv-loop μ-loop
 without32-requires-2 c κs = search needs
@@ -50,7 +53,7 @@ pending-requires c κs = search needs
 loop-holds : tie.Need-loop-holds Inv-loop μ-loop
 loop-holds c =
     let s = c .before .before .before .before .before .before in
-    grow-begin _ _ _ _ (s .pre .2) _ (s .pre .1) (c .before .before .before .before .before .single32 .ensures) (c .before .before .before .before .without32 .ensures) (c .before .before .before .hanging .ensures) (c .before .without322 .ensures) (c .pending .ensures)
+    grow-begin _ _ _ _ (s .pre .2) _ (s .pre .1) (alone _ (c .before .before .before .before .before .single .ensures)) (c .before .before .before .before .without32 .ensures) (c .before .before .before .hanging .ensures) (c .before .without322 .ensures) (c .pending .ensures)
 
 hanging-any-requires : tie.Need-hanging-any-requires Inv-loop μ-loop
 hanging-any-requires c κs = search needs
@@ -81,7 +84,8 @@ component-spec =
     (tie.spec
     Inv-loop
     μ-loop
-    single32-requires
+    add-single
+    single-requires
     without32-requires
     hanging-requires
     returns

@@ -13,7 +13,7 @@ use Rattle.split.proofs.hanging_any.Tie as tie
 
 abbrev Inv-loop : tie.InvT-loop
 Inv-loop after prior k left set all₀ todo₀ all todo =
-    (all < 2 ^ 32) × (todo < 2 ^ 32) × (union all (hangingAny after prior k left todo) ≡ hangingAny after prior k left set)
+    (all < 2 ^ 32) × (todo < 2 ^ 32) × (union all (hangingAny 32 after prior k left todo) ≡ hangingAny 32 after prior k left set)
 
 abbrev μ-loop : tie.MeasureT-loop
 μ-loop after prior k left set all₀ todo₀ all todo = length (members 32 todo)
@@ -48,14 +48,14 @@ loop-again c =
       c .before .union32 .ok,
       c .without-first32 .ok,
       rw (c .without-first32 .ensures, c .before .union32 .ensures, c .before .before .hanging .ensures, c .before .before .before .first32 .ensures)
-          (any-more _ _ _ _ left (l .all) (l .todo) (l .inv .0) (l .inv .1) (c .before .before .before .before .loop-test .taken)) ∙ l .inv .2,
+          (any-more _ _ _ _ 32 left (l .all) (l .todo) (l .inv .0) (l .inv .1) (c .before .before .before .before .loop-test .taken)) ∙ l .inv .2,
     )
 
 returns : tie.Need-returns Inv-loop μ-loop
 returns c =
     let l = c .before .loop in
     let left : c .before .before .args .left < 2 ^ 32 = search needs in
-    any-end _ _ _ _ left (l .inv .2) (c .loop-test .left)
+    any-end _ _ _ _ 32 left (l .inv .2) (c .loop-test .left)
 
 pub hanging-any-spec : {M : Type 1} → statement M
 hanging-any-spec =

@@ -38,18 +38,18 @@ put-stages-K t = (start-of-reads.Asked, start-of-reads.Learnt, put-stage-reads.A
 -- one stage, and several
 one : (t : ℕ) (c : put-stages-lts.Then1 (put-stages-K t) (put-stages-at t) put-stages.Post) →
     let a = c .before .before .before .before .before .before .before .args in
-    X.stageText (a .head) (now (a .sets)) (now (a .grounds)) (now (a .rows)) (c .before .start-of .result) (a .q) ≡ X.stagesText (a .head) (now (a .sets)) (now (a .grounds)) (now (a .rows)) (a .q)
+    X.stageText 64 (a .head) (now (a .sets)) (now (a .grounds)) (now (a .rows)) (c .before .start-of .result) (a .q) ≡ X.stagesText 64 (a .head) (now (a .sets)) (now (a .grounds)) (now (a .rows)) (a .q)
 one t c =
     let e = c .before .start-of .ensures in
-    rw e (stages-one _ _ _ _ _ (omega arith) (sym e ∙ c .if1 .taken))
+    rw e (stages-one 64 _ _ _ _ _ (omega arith) (sym e ∙ c .if1 .taken))
 
 more : (t : ℕ) (c : put-stages-lts.Else1 (put-stages-K t) (put-stages-at t) put-stages.Post) →
     let a = c .before .before .before .before .before .before .before .args in
     let p : ℕ = c .before .start-of .result in
-    X.stagesText (a .head) (now (a .sets)) (now (a .grounds)) (now (a .rows)) p ++ (44 ∷ []) ++ X.stageText (a .head) (now (a .sets)) (now (a .grounds)) (now (a .rows)) p (a .q) ≡ X.stagesText (a .head) (now (a .sets)) (now (a .grounds)) (now (a .rows)) (a .q)
+    X.stagesText 64 (a .head) (now (a .sets)) (now (a .grounds)) (now (a .rows)) p ++ (44 ∷ []) ++ X.stageText 64 (a .head) (now (a .sets)) (now (a .grounds)) (now (a .rows)) p (a .q) ≡ X.stagesText 64 (a .head) (now (a .sets)) (now (a .grounds)) (now (a .rows)) (a .q)
 more t c =
     let e = c .before .start-of .ensures in
-    rw e (stages-more _ _ _ _ _ (omega arith) (λ z. c .if1 .left (e ∙ z)))
+    rw e (stages-more 64 _ _ _ _ _ (omega arith) (λ z. c .if1 .left (e ∙ z)))
 
 less : (t : ℕ) (c : put-stages-lts.After-start-of (put-stages-K t) (put-stages-at t) put-stages.Post) → c .start-of .result < c .before .before .before .before .before .before .args .q
 less t c = rw (c .start-of .ensures) (start-falls _ _ _ _ (omega arith))

@@ -16,8 +16,8 @@ met : (c : tie.After-goal2) →
     c .goal2 .result ≡ M.once (now (a .sets)) 0 (a .p)
 met c =
     let a = c .before .before .before .before .before .args in
-    let e : now (a .before) ≡ M.upTo (now (a .sets)) = (search) in
-    c .goal2 .ensures ∙ ap (λ (l : List ℕ). W.goal l (a .p + 1)) e ∙ before-next _ _ (omega arith) (omega arith)
+    let e : now (a .before) ≡ M.upTo 33 (now (a .sets)) = (search) in
+    c .goal2 .ensures ∙ ap (λ (l : List ℕ). W.goal l (a .p + 1)) e ∙ before-next 33 _ _ (omega arith) (omega arith)
 
 add-goal : tie.Need-add-goal
 add-goal c = search needs

@@ -17,8 +17,8 @@ use Rattle.stage_texts.proofs.put_checks.Tie as tie
 parts : (c : tie.After-checks-of) →
     let a = c .before .before .before .before .before .before .args in
     let k : ℕ = c .checks-of .result .pairs in
-    Y.groundsText (c .checks-of .result .ground) ++ Y.pairsText (now (a .sets)) (now (a .rows)) (a .p) (a .q) k k ≡ X.checksText (a .head) (now (a .sets)) (now (a .grounds)) (now (a .rows)) true (a .p) (a .q)
-parts c = rw (c .checks-of .ensures .0, c .checks-of .ensures .1) (checks-parts _ _ _ _ _ _)
+    Y.groundsText 64 (c .checks-of .result .ground) ++ Y.pairsText 64 (now (a .sets)) (now (a .rows)) (a .p) (a .q) k k ≡ X.checksText 64 (a .head) (now (a .sets)) (now (a .grounds)) (now (a .rows)) true (a .p) (a .q)
+parts c = rw (c .checks-of .ensures .0, c .checks-of .ensures .1) (checks-parts 64 _ _ _ _ _ _)
 
 checks-of-requires : tie.Need-checks-of-requires
 checks-of-requires c κs = ((omega arith, (omega arith, omega arith)), (search))

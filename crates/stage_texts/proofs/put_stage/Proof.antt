@@ -19,25 +19,25 @@ use Rattle.stage_texts.proofs.put_stage.Tie as tie
 -- the parts of a larger stage
 several : (c : tie.Else1) →
     let a = c .before .before .before .before .before .before .args in
-    let t = X.checksText (a .head) (now (a .sets)) (now (a .grounds)) (now (a .rows)) false (a .p) (a .q) in
-    (40 ∷ []) ++ t ++ W.arrowIf (nonEmpty t) ++ W.goalsText (a .p) (a .q) ++ (41 ∷ []) ≡ X.stageText (a .head) (now (a .sets)) (now (a .grounds)) (now (a .rows)) (a .p) (a .q)
-several c = stage-parts _ _ _ _ _ _ (λ e. omega (arith, e, c .if1 .left))
+    let t = X.checksText 64 (a .head) (now (a .sets)) (now (a .grounds)) (now (a .rows)) false (a .p) (a .q) in
+    (40 ∷ []) ++ t ++ W.arrowIf (nonEmpty t) ++ W.goalsText (a .p) (a .q) ++ (41 ∷ []) ≡ X.stageText 64 (a .head) (now (a .sets)) (now (a .grounds)) (now (a .rows)) (a .p) (a .q)
+several c = stage-parts 64 _ _ _ _ _ _ (λ e. omega (arith, e, c .if1 .left))
 
 room : (c : tie.Else1) →
     let a = c .before .before .before .before .before .before .args in
-    length (X.checksText (a .head) (now (a .sets)) (now (a .grounds)) (now (a .rows)) true (a .p) (a .q)) + length (W.goalsText (a .p) (a .q)) + 2 ≤ length (X.stageText (a .head) (now (a .sets)) (now (a .grounds)) (now (a .rows)) (a .p) (a .q))
-room c = stage-room _ _ _ _ _ _ (λ e. omega (arith, e, c .if1 .left))
+    length (X.checksText 64 (a .head) (now (a .sets)) (now (a .grounds)) (now (a .rows)) true (a .p) (a .q)) + length (W.goalsText (a .p) (a .q)) + 2 ≤ length (X.stageText 64 (a .head) (now (a .sets)) (now (a .grounds)) (now (a .rows)) (a .p) (a .q))
+room c = stage-room 64 _ _ _ _ _ _ (λ e. omega (arith, e, c .if1 .left))
 
 -- where the checks end, with the parenthesis, and whether there are any
 end : (c : tie.After-store-byte) →
     let a = c .before .before .before .before .before .before .before .before .before .before .before .before .args in
-    max (c .store-byte .result) (c .before .before .before .before .put-checks .result) ≡ a .at + (1 + length (X.checksText (a .head) (now (a .sets)) (now (a .grounds)) (now (a .rows)) false (a .p) (a .q)))
-end c = omega (arith, checks-opened _ _ _ _ _ _ (c .before .before .before .before .put-checks .ensures) (c .store-byte .ensures) .place)
+    max (c .store-byte .result) (c .before .before .before .before .put-checks .result) ≡ a .at + (1 + length (X.checksText 64 (a .head) (now (a .sets)) (now (a .grounds)) (now (a .rows)) false (a .p) (a .q)))
+end c = omega (arith, checks-opened 64 _ _ _ _ _ _ (c .before .before .before .before .put-checks .ensures) (c .store-byte .ensures) .place)
 
 any : (c : tie.After-put-checks) →
     let a = c .before .before .before .before .before .before .before .before .args in
-    ltb (a .at) (c .put-checks .result) ≡ nonEmpty (X.checksText (a .head) (now (a .sets)) (now (a .grounds)) (now (a .rows)) false (a .p) (a .q))
-any c = moved (c .put-checks .ensures) ∙ checks-some _ _ _ _ _ _
+    ltb (a .at) (c .put-checks .result) ≡ nonEmpty (X.checksText 64 (a .head) (now (a .sets)) (now (a .grounds)) (now (a .rows)) false (a .p) (a .q))
+any c = moved (c .put-checks .ensures) ∙ checks-some 64 _ _ _ _ _ _
 
 add-if1 : tie.Need-add-if1
 add-if1 c = search needs
@@ -46,13 +46,13 @@ cast-store-number : tie.Need-cast-store-number
 cast-store-number c = search needs
 
 store-number-requires : tie.Need-store-number-requires
-store-number-requires c κs = let a = c .before .before .before .before .before .before .before .args in (omega arith, omega (arith, ap length (stage-one (a .head) (now (a .sets)) (now (a .grounds)) (now (a .rows)) (a .p) (a .q) (c .before .if1 .taken))))
+store-number-requires c κs = let a = c .before .before .before .before .before .before .before .args in (omega arith, omega (arith, ap length (stage-one 64 (a .head) (now (a .sets)) (now (a .grounds)) (now (a .rows)) (a .p) (a .q) (c .before .if1 .taken))))
 
 same-length : tie.Need-same-length
 same-length c = search needs
 
 returns : tie.Need-returns
-returns c = recast (stage-one _ _ _ _ _ _ (c .before .before .before .before .if1 .taken)) (c .before .before .store-number .ensures)
+returns c = recast (stage-one 64 _ _ _ _ _ _ (c .before .before .before .before .if1 .taken)) (c .before .before .store-number .ensures)
 
 put-checks-requires : tie.Need-put-checks-requires
 put-checks-requires c κs = ((omega arith, (omega arith, omega arith)), ((search), omega (arith, room (c .before))))
@@ -77,7 +77,7 @@ same-length-2 c = search needs
 
 returns-2 : tie.Need-returns-2
 returns-2 c =
-    let start = arrive (c .before .before .before .before .before .before .before .before .before .before .before .later .ensures) (checks-opened _ _ _ _ _ _ (c .before .before .before .before .before .before .before .before .before .before .before .before .before .before .before .before .before .before .before .put-checks .ensures) (c .before .before .before .before .before .before .before .before .before .before .before .before .before .before .before .store-byte .ensures)) in
+    let start = arrive (c .before .before .before .before .before .before .before .before .before .before .before .later .ensures) (checks-opened 64 _ _ _ _ _ _ (c .before .before .before .before .before .before .before .before .before .before .before .before .before .before .before .before .before .before .before .put-checks .ensures) (c .before .before .before .before .before .before .before .before .before .before .before .before .before .before .before .store-byte .ensures)) in
     let arrow = recast (ap W.arrowIf (any (c .before .before .before .before .before .before .before .before .before .before .before .before .before .before .before .before .before .before .before))) (c .before .before .before .before .before .before .before .before .before .before .put-arrow .ensures) in
     recast (several (c .before .before .before .before .before .before .before .before .before .before .before .before .before .before .before .before .before .before .before .before .before)) (then (then (then start arrow) (c .before .before .before .before .before .before .put-goals .ensures)) (c .before .before .store-byte2 .ensures))
 

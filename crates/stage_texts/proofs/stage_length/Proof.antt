@@ -18,17 +18,17 @@ use Rattle.stage_texts.proofs.stage_length.Tie as tie
 parts : (c : tie.After-checks-of) →
     let a = c .before .before .before .before .before .before .args in
     let k : ℕ = c .checks-of .result .pairs in
-    Y.groundsText (c .checks-of .result .ground) ++ Y.pairsText (now (a .sets)) (now (a .rows)) (a .p) (a .q) k k ≡ X.checksText (a .head) (now (a .sets)) (now (a .grounds)) (now (a .rows)) true (a .p) (a .q)
-parts c = rw (c .checks-of .ensures .0, c .checks-of .ensures .1) (checks-parts _ _ _ _ _ _)
+    Y.groundsText 64 (c .checks-of .result .ground) ++ Y.pairsText 64 (now (a .sets)) (now (a .rows)) (a .p) (a .q) k k ≡ X.checksText 64 (a .head) (now (a .sets)) (now (a .grounds)) (now (a .rows)) true (a .p) (a .q)
+parts c = rw (c .checks-of .ensures .0, c .checks-of .ensures .1) (checks-parts 64 _ _ _ _ _ _)
 
 room : (c : tie.After-checks-of) →
     let a = c .before .before .before .before .before .before .args in
-    length (X.checksText (a .head) (now (a .sets)) (now (a .grounds)) (now (a .rows)) true (a .p) (a .q)) + length (W.goalsText (a .p) (a .q)) + 2 ≤ length (X.stageText (a .head) (now (a .sets)) (now (a .grounds)) (now (a .rows)) (a .p) (a .q))
-room c = stage-room _ _ _ _ _ _ (λ e. c .before .if1 .left (sym e))
+    length (X.checksText 64 (a .head) (now (a .sets)) (now (a .grounds)) (now (a .rows)) true (a .p) (a .q)) + length (W.goalsText (a .p) (a .q)) + 2 ≤ length (X.stageText 64 (a .head) (now (a .sets)) (now (a .grounds)) (now (a .rows)) (a .p) (a .q))
+room c = stage-room 64 _ _ _ _ _ _ (λ e. c .before .if1 .left (sym e))
 
 checks : (c : tie.After-pairs-length) →
     let a = c .before .before .before .before .before .before .before .before .args in
-    c .before .grounds-length .result + c .pairs-length .result ≡ length (X.checksText (a .head) (now (a .sets)) (now (a .grounds)) (now (a .rows)) true (a .p) (a .q))
+    c .before .grounds-length .result + c .pairs-length .result ≡ length (X.checksText 64 (a .head) (now (a .sets)) (now (a .grounds)) (now (a .rows)) true (a .p) (a .q))
 checks c = omega (arith, c .before .grounds-length .ensures, c .pairs-length .ensures, simp length-append at (ap length (parts (c .before .before))))
 
 add-if1 : tie.Need-add-if1
@@ -41,7 +41,7 @@ number-length-requires : tie.Need-number-length-requires
 number-length-requires c κs = search needs
 
 returns : tie.Need-returns
-returns c = c .number-length .ensures ∙ ap length (stage-one _ _ _ _ _ _ (sym (c .before .if1 .taken)))
+returns c = c .number-length .ensures ∙ ap length (stage-one 64 _ _ _ _ _ _ (sym (c .before .if1 .taken)))
 
 checks-of-requires : tie.Need-checks-of-requires
 checks-of-requires c κs = ((omega arith, (omega arith, omega arith)), (search))
@@ -62,7 +62,7 @@ add-result : tie.Need-add-result
 add-result c = omega (arith, room (c .before .before .before .before), c .before .goals-length .ensures)
 
 returns-2 : tie.Need-returns-2
-returns-2 c = rw (c .before .goals-length .ensures) (stage-none _ _ _ _ _ _ (λ e. c .before .before .before .before .before .if1 .left (sym e)) (sym (checks (c .before .before)) ∙ c .if2 .taken))
+returns-2 c = rw (c .before .goals-length .ensures) (stage-none 64 _ _ _ _ _ _ (λ e. c .before .before .before .before .before .if1 .left (sym e)) (sym (checks (c .before .before)) ∙ c .if2 .taken))
 
 add-result-2 : tie.Need-add-result-2
 add-result-2 c = omega (arith, room (c .before .before .before .before), checks (c .before .before), c .before .goals-length .ensures)
@@ -71,7 +71,7 @@ add-result-3 : tie.Need-add-result-3
 add-result-3 c = omega (arith, room (c .before .before .before .before), checks (c .before .before), c .before .goals-length .ensures)
 
 returns-3 : tie.Need-returns-3
-returns-3 c = rw (c .before .goals-length .ensures, checks (c .before .before)) (stage-some _ _ _ _ _ _ (λ e. c .before .before .before .before .before .if1 .left (sym e)) (λ e. c .if2 .left (checks (c .before .before) ∙ e)))
+returns-3 c = rw (c .before .goals-length .ensures, checks (c .before .before)) (stage-some 64 _ _ _ _ _ _ (λ e. c .before .before .before .before .before .if1 .left (sym e)) (λ e. c .if2 .left (checks (c .before .before) ∙ e)))
 
 pub stage-length-spec : {M : Type 1} → statement M
 stage-length-spec =

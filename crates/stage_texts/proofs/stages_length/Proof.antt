@@ -12,7 +12,7 @@ use Rattle.stage_texts.proofs.stages_length.Statement.{statement}
 use Rattle.stage_texts.proofs.stages_length.Tie as tie
 
 abbrev Inv-loop : tie.InvT-loop
-Inv-loop head sets before grounds rows n o₀ q₀ o q = (0 < q) × ((q ≤ n) × (o + length (X.stagesText head sets grounds rows q) ≡ length (X.stagesText head sets grounds rows n)))
+Inv-loop head sets before grounds rows n o₀ q₀ o q = (0 < q) × ((q ≤ n) × (o + length (X.stagesText 64 head sets grounds rows q) ≡ length (X.stagesText 64 head sets grounds rows n)))
 
 abbrev μ-loop : tie.MeasureT-loop
 μ-loop head sets before grounds rows n o₀ q₀ o q = q
@@ -23,18 +23,18 @@ less c = rw (c .start-of .ensures) (start-falls _ _ _ _ (c .before .loop .inv .0
 -- the last stage, alone and after others
 room : (c : tie.After-start-of Inv-loop μ-loop) →
     let a = c .before .before .before .before .before .before .args in
-    length (X.stageText (a .head) (now (a .sets)) (now (a .grounds)) (now (a .rows)) (c .start-of .result) (c .before .loop .q)) ≤ length (X.stagesText (a .head) (now (a .sets)) (now (a .grounds)) (now (a .rows)) (c .before .loop .q))
-room c = rw (c .start-of .ensures) (stages-room _ _ _ _ _ (c .before .loop .inv .0))
+    length (X.stageText 64 (a .head) (now (a .sets)) (now (a .grounds)) (now (a .rows)) (c .start-of .result) (c .before .loop .q)) ≤ length (X.stagesText 64 (a .head) (now (a .sets)) (now (a .grounds)) (now (a .rows)) (c .before .loop .q))
+room c = rw (c .start-of .ensures) (stages-room 64 _ _ _ _ _ (c .before .loop .inv .0))
 
 one : (c : tie.After-start-of Inv-loop μ-loop) → c .start-of .result ≡ 0 →
     let a = c .before .before .before .before .before .before .args in
-    X.stageText (a .head) (now (a .sets)) (now (a .grounds)) (now (a .rows)) (c .start-of .result) (c .before .loop .q) ≡ X.stagesText (a .head) (now (a .sets)) (now (a .grounds)) (now (a .rows)) (c .before .loop .q)
-one c z = rw (c .start-of .ensures) (stages-one _ _ _ _ _ (c .before .loop .inv .0) (sym (c .start-of .ensures) ∙ z))
+    X.stageText 64 (a .head) (now (a .sets)) (now (a .grounds)) (now (a .rows)) (c .start-of .result) (c .before .loop .q) ≡ X.stagesText 64 (a .head) (now (a .sets)) (now (a .grounds)) (now (a .rows)) (c .before .loop .q)
+one c z = rw (c .start-of .ensures) (stages-one 64 _ _ _ _ _ (c .before .loop .inv .0) (sym (c .start-of .ensures) ∙ z))
 
 more : (c : tie.After-start-of Inv-loop μ-loop) → (c .start-of .result ≡ 0 → ⊥) →
     let a = c .before .before .before .before .before .before .args in
-    X.stagesText (a .head) (now (a .sets)) (now (a .grounds)) (now (a .rows)) (c .start-of .result) ++ (44 ∷ []) ++ X.stageText (a .head) (now (a .sets)) (now (a .grounds)) (now (a .rows)) (c .start-of .result) (c .before .loop .q) ≡ X.stagesText (a .head) (now (a .sets)) (now (a .grounds)) (now (a .rows)) (c .before .loop .q)
-more c n = rw (c .start-of .ensures) (stages-more _ _ _ _ _ (c .before .loop .inv .0) (λ z. n (c .start-of .ensures ∙ z)))
+    X.stagesText 64 (a .head) (now (a .sets)) (now (a .grounds)) (now (a .rows)) (c .start-of .result) ++ (44 ∷ []) ++ X.stageText 64 (a .head) (now (a .sets)) (now (a .grounds)) (now (a .rows)) (c .start-of .result) (c .before .loop .q) ≡ X.stagesText 64 (a .head) (now (a .sets)) (now (a .grounds)) (now (a .rows)) (c .before .loop .q)
+more c n = rw (c .start-of .ensures) (stages-more 64 _ _ _ _ _ (c .before .loop .inv .0) (λ z. n (c .start-of .ensures ∙ z)))
 
 loop-holds : tie.Need-loop-holds Inv-loop μ-loop
 loop-holds c = (omega arith, (omega arith, omega arith))

@@ -12,10 +12,10 @@ use Rattle.stages.proofs.note.Statement.{statement}
 use Rattle.stages.proofs.note.Tie as tie
 
 abbrev Inv-loop : tie.InvT-loop
-Inv-loop own₀ set s rest₀ own rest = (rest < 2 ^ 64) × ((length own ≡ 64) × ((x : ℕ) → x < 64 → cond (has rest x) s (getD own x 0) ≡ cond (has set x) s (getD own₀ x 0)))
+Inv-loop own₀ m s rest₀ own rest = (rest < 2 ^ 64) × ((length own ≡ 64) × ((x : ℕ) → x < 64 → cond (has rest x) s (getD own x 0) ≡ cond (has m x) s (getD own₀ x 0)))
 
 abbrev μ-loop : tie.MeasureT-loop
-μ-loop own₀ set s rest₀ own rest = length (members 64 rest)
+μ-loop own₀ m s rest₀ own rest = length (members 64 rest)
 
 small : (c : tie.After-first Inv-loop μ-loop) → c .first .result < 64
 small c = rw (c .first .ensures) (first-in 64 _ (c .before .before .loop .inv .0) (c .before .loop-test .taken))
@@ -27,7 +27,7 @@ turn : (c : tie.After-without-first Inv-loop μ-loop) (x : ℕ) →
 turn c x =
     let l = c .before .before .before .loop in
     let s : ℕ = c .before .before .before .before .before .args .s in
-    rw (c .without-first .ensures, c .before .first .ensures) (note-step (l .own) (l .rest) s (l .inv .1 .0) (l .inv .0) (c .before .before .loop-test .taken) x)
+    rw (c .without-first .ensures, c .before .first .ensures) (note-step 64 (l .own) (l .rest) s (l .inv .1 .0) (l .inv .0) (c .before .before .loop-test .taken) x)
 
 loop-holds : tie.Need-loop-holds Inv-loop μ-loop
 loop-holds c = (search needs, (search needs, λ x l. refl))

@@ -11,13 +11,13 @@ use Rattle.stages.proofs.own_goals.Statement.{statement}
 use Rattle.stages.proofs.own_goals.Tie as tie
 
 abbrev Inv-loop : tie.InvT-loop
-Inv-loop own₀ sets p q k g₀ own g = (p ≤ g) × ((g ≤ q) × ((length own ≡ 64) × M.OwnGoals sets g q k own))
+Inv-loop own₀ sets p q k g₀ own g = (p ≤ g) × ((g ≤ q) × ((length own ≡ 64) × M.OwnGoals 64 sets g q k own))
 
 abbrev μ-loop : tie.MeasureT-loop
 μ-loop own₀ sets p q k g₀ own g = g
 
 loop-holds : tie.Need-loop-holds Inv-loop μ-loop
-loop-holds c = let a = c .before .before .args in let e : now (a .own) ≡ replicate 64 0 = (search) in (omega arith, (omega arith, (ap length e ∙ length-replicate {A = ℕ} 64 0, own-none (now (a .sets)) (a .q) (a .k) (now (a .own)) e)))
+loop-holds c = let a = c .before .before .args in let e : now (a .own) ≡ replicate 64 0 = (search) in (omega arith, (omega arith, (ap length e ∙ length-replicate {A = ℕ} 64 0, own-none 64 (now (a .sets)) (a .q) (a .k) (now (a .own)) e)))
 
 goal-requires : tie.Need-goal-requires Inv-loop μ-loop
 goal-requires c κs = omega arith
@@ -35,7 +35,7 @@ loop-less : tie.Need-loop-less Inv-loop μ-loop
 loop-less c = omega arith
 
 loop-again : tie.Need-loop-again Inv-loop μ-loop
-loop-again c = (omega arith, (omega arith, (search needs, own-turn _ _ _ _ _ _ _ _ (c .before .before .before .before .before .goal .ensures) (c .before .before .before .meet .ensures) (c .before .before .before .before .before .before .before .loop .inv .1 .1 .1) (c .before .before .note .ensures) (omega arith) (omega arith))))
+loop-again c = (omega arith, (omega arith, (search needs, own-turn 64 _ _ _ _ _ _ _ _ (c .before .before .before .before .before .goal .ensures) (c .before .before .before .meet .ensures) (c .before .before .before .before .before .before .before .loop .inv .1 .1 .1) (c .before .before .note .ensures) (omega arith) (omega arith))))
 
 same-length : tie.Need-same-length Inv-loop μ-loop
 same-length c = let a = c .before .before .before .before .args in let e : now (a .own) ≡ replicate 64 0 = (search) in c .before .loop .inv .1 .1 .0 ∙ sym (ap length e ∙ length-replicate {A = ℕ} 64 0)

@@ -27,9 +27,9 @@ tested : (c : tie.After-meet Inv-loop μ-loop) →
 tested c =
     let a = c .before .before .before .before .before .before .before .before .before .args in
     let l = c .before .before .before .before .before .before .loop in
-    let e : now (a .before) ≡ M.upTo (now (a .sets)) = (search) in
+    let e : now (a .before) ≡ M.upTo 33 (now (a .sets)) = (search) in
     let b : c .before .before .goal2 .result ≡ M.once (now (a .sets)) 0 (l .p - 1) =
-    c .before .before .goal2 .ensures ∙ ap (λ (k : List ℕ). W.goal k (l .p)) e ∙ before-goal _ _ (omega arith) (omega arith) (omega arith)
+    c .before .before .goal2 .ensures ∙ ap (λ (k : List ℕ). W.goal k (l .p)) e ∙ before-goal 33 _ _ (omega arith) (omega arith) (omega arith)
     in
     boundary-mask _ _ 64 _ _ _ _ _ b (l .inv .1 .0) (c .meet .ok) (rw (c .meet .ensures, c .before .without2 .ensures, c .before .before .before .without .ensures, c .before .before .before .before .goal .ensures))
 

@@ -8,19 +8,19 @@ use Rattle.stages.proofs.up_to.Statement.{statement}
 use Rattle.stages.proofs.up_to.Tie as tie
 
 abbrev Inv-loop : tie.InvT-loop
-Inv-loop sets set₀ m₀ g₀ set m g = (g ≤ length sets + 1) × ((m ≡ M.once sets 0 g) × (set ≡ filled sets g))
+Inv-loop sets vars₀ m₀ g₀ vars m g = (g ≤ length sets + 1) × ((m ≡ M.once sets 0 g) × (vars ≡ filled 33 sets g))
 
 abbrev μ-loop : tie.MeasureT-loop
-μ-loop sets set₀ m₀ g₀ set m g = length sets + 1 - g
+μ-loop sets vars₀ m₀ g₀ vars m g = length sets + 1 - g
 
 loop-holds : tie.Need-loop-holds Inv-loop μ-loop
-loop-holds c = (omega arith, (once-none _ _, upto-none _))
+loop-holds c = (omega arith, (once-none _ _, upto-none 33 _))
 
-mul-set : tie.Need-mul-set Inv-loop μ-loop
-mul-set c = omega arith
+mul-vars : tie.Need-mul-vars Inv-loop μ-loop
+mul-vars c = omega arith
 
-array-write-set : tie.Need-array-write-set Inv-loop μ-loop
-array-write-set c = omega arith
+array-write-vars : tie.Need-array-write-vars Inv-loop μ-loop
+array-write-vars c = omega arith
 
 add-g : tie.Need-add-g Inv-loop μ-loop
 add-g c = omega arith
@@ -40,12 +40,12 @@ loop-again c =
       omega arith,
       (
         c .union .ensures ∙ once-more _ _ _ _ _ (omega arith) (l .inv .1 .0) (c .before .goal .ensures),
-        upto-more _ (l .g) (l .set) _ (omega arith) (l .inv .1 .1) (l .inv .1 .0),
+        upto-more 33 _ (l .g) (l .vars) _ (omega arith) (l .inv .1 .1) (l .inv .1 .0),
       ),
     )
 
 returns : tie.Need-returns Inv-loop μ-loop
-returns c = let l = c .before .loop in l .inv .1 .1 ∙ upto-all _ (l .g) (omega arith) (omega arith)
+returns c = let l = c .before .loop in l .inv .1 .1 ∙ upto-all 33 _ (l .g) (omega arith) (omega arith)
 
 pub up-to-spec : {M : Type 1} → statement M
 up-to-spec =
@@ -54,8 +54,8 @@ up-to-spec =
     Inv-loop
     μ-loop
     loop-holds
-    mul-set
-    array-write-set
+    mul-vars
+    array-write-vars
     add-g
     goal-requires
     union-requires

@@ -43,7 +43,7 @@ has-requires : tie.Need-has-requires Inv-loop μ-loop
 has-requires c κs = omega (arith, c .before .before .before .before .before .before .before .before .pre, c .if2 .left)
 
 returns-2 : tie.Need-returns-2 Inv-loop μ-loop
-returns-2 c = sym (scanned-met (c .before .before .before .before .before .before .before .before .before .before .args .n) (c .before .before .before .before .before .before .before .before .before .before .args .text .now) (c .before .before .before .before .before .before .before .before .loop .at) (c .before .before .before .before .before .before .before .before .loop .met) (c .before .before .before .before .before .before .before .before .loop .inv) (c .before .before .before .before .before .before .before .loop-test .taken) (sym (c .before .before .before .before .before .is-digit .ensures) ∙ c .before .before .before .before .if1 .taken) (c .before .before .before .before .before .before .before .before .before .before .pre) (omega (arith, (c .before .before .before .number-at .ensures), c .before .before .if2 .left)) (ap (λ z. has (c .before .before .before .before .before .before .before .before .loop .met) z) (sym (c .before .before .before .number-at .ensures)) ∙ sym (c .before .has .ensures) ∙ c .if3 .taken))
+returns-2 c = sym (scanned-met (c .before .before .before .before .before .before .before .before .before .before .args .n) (c .before .before .before .before .before .before .before .before .before .before .args .text .now) (c .before .before .before .before .before .before .before .before .loop .at) (c .before .before .before .before .before .before .before .before .loop .met) (c .before .before .before .before .before .before .before .before .loop .inv) (c .before .before .before .before .before .before .before .loop-test .taken) (sym (c .before .before .before .before .before .is-digit .ensures) ∙ c .before .before .before .before .if1 .taken) (omega (arith, (c .before .before .before .number-at .ensures), c .before .before .if2 .left)) (ap (λ z. has (c .before .before .before .before .before .before .before .before .loop .met) z) (sym (c .before .before .before .number-at .ensures)) ∙ sym (c .before .has .ensures) ∙ c .if3 .taken))
 
 single-requires : tie.Need-single-requires Inv-loop μ-loop
 single-requires c κs = omega (arith, c .before .before .before .before .before .before .before .before .before .before .pre, c .before .before .if2 .left)
@@ -58,7 +58,7 @@ loop-less : tie.Need-loop-less Inv-loop μ-loop
 loop-less c = omega (arith, c .before .before .before .before .before .before .before .before .before .loop-test .taken)
 
 loop-again : tie.Need-loop-again Inv-loop μ-loop
-loop-again c = subst (λ z. Scanned (c .before .before .before .before .before .before .before .before .before .before .before .before .args .n) (c .before .before .before .before .before .before .before .before .before .before .before .before .args .text .now) ((c .before .before .before .before .before .before .before .before .before .before .loop .at) + 2) z) (ap (λ z. union (c .before .before .before .before .before .before .before .before .before .before .loop .met) z) (ap (λ z. single z) (sym (c .before .before .before .before .before .number-at .ensures)) ∙ sym (c .before .single .ensures)) ∙ sym (c .union .ensures)) (scanned-more (c .before .before .before .before .before .before .before .before .before .before .before .before .args .n) (c .before .before .before .before .before .before .before .before .before .before .before .before .args .text .now) (c .before .before .before .before .before .before .before .before .before .before .loop .at) (c .before .before .before .before .before .before .before .before .before .before .loop .met) (c .before .before .before .before .before .before .before .before .before .before .loop .inv) (c .before .before .before .before .before .before .before .before .before .loop-test .taken) (sym (c .before .before .before .before .before .before .before .is-digit .ensures) ∙ c .before .before .before .before .before .before .if1 .taken) (c .before .before .before .before .before .before .before .before .before .before .before .before .pre) (omega (arith, (c .before .before .before .before .before .number-at .ensures), c .before .before .before .before .if2 .left)) (ap (λ z. has (c .before .before .before .before .before .before .before .before .before .before .loop .met) z) (sym (c .before .before .before .before .before .number-at .ensures)) ∙ sym (c .before .before .before .has .ensures) ∙ c .before .before .if3 .left))
+loop-again c = subst (λ z. Scanned (c .before .before .before .before .before .before .before .before .before .before .before .before .args .n) (c .before .before .before .before .before .before .before .before .before .before .before .before .args .text .now) ((c .before .before .before .before .before .before .before .before .before .before .loop .at) + 2) z) (ap (λ z. union (c .before .before .before .before .before .before .before .before .before .before .loop .met) z) (ap (λ z. single z) (sym (c .before .before .before .before .before .number-at .ensures)) ∙ sym (c .before .single .ensures)) ∙ sym (c .union .ensures)) (scanned-more (c .before .before .before .before .before .before .before .before .before .before .before .before .args .n) (c .before .before .before .before .before .before .before .before .before .before .before .before .args .text .now) (c .before .before .before .before .before .before .before .before .before .before .loop .at) (c .before .before .before .before .before .before .before .before .before .before .loop .met) (c .before .before .before .before .before .before .before .before .before .before .loop .inv) (c .before .before .before .before .before .before .before .before .before .loop-test .taken) (sym (c .before .before .before .before .before .before .before .is-digit .ensures) ∙ c .before .before .before .before .before .before .if1 .taken) (omega (arith, (c .before .before .before .before .before .number-at .ensures), c .before .before .before .before .if2 .left)) (ap (λ z. has (c .before .before .before .before .before .before .before .before .before .before .loop .met) z) (sym (c .before .before .before .before .before .number-at .ensures)) ∙ sym (c .before .before .before .has .ensures) ∙ c .before .before .if3 .left))
 
 add-at-2 : tie.Need-add-at-2 Inv-loop μ-loop
 add-at-2 c = omega (arith, c .before .before .before .loop-test .taken)

@@ -12,7 +12,7 @@ below32-requires : tie.Need-below32-requires
 below32-requires c κs = search needs
 
 returns : tie.Need-returns
-returns c = fault-none (c .before .before .before .before .args .n) (c .before .before .before .before .pre .0) (c .before .before .before .before .args .text .now) _ _ (c .before .before .before .before .pre .1) (c .before .before .if1 .taken) (c .if2 .taken ∙ c .before .below32 .ensures)
+returns c = fault-none 32 (c .before .before .before .before .args .n) (c .before .before .before .before .pre .0) (c .before .before .before .before .args .text .now) _ _ (c .before .before .before .before .pre .1) (c .before .before .if1 .taken) (c .if2 .taken ∙ c .before .below32 .ensures)
 
 fault-requires : tie.Need-fault-requires
 fault-requires c κs = search needs

@@ -109,6 +109,8 @@ pub(super) fn numbers() -> Lines {
         "1,22,3",
         "1,2,30",
         "10,20,30",
+        "2,12&1",
+        "123",
     ] {
         lines.check(&three, text.as_bytes());
     }
@@ -139,6 +141,10 @@ pub(super) fn verdicts() -> Lines {
         for text in ["1,2", "2,1", "1&2", "2&1", "(1),(2)", "((2)&(1))"] {
             lines.check(&parts, text.as_bytes());
         }
+    }
+    lines.note("& binds closer than ,");
+    for text in ["(1&2,3)&4", "1&2,3&4", "(1,2&3)&4"] {
+        lines.check(&waiting(4, &[(1, 3), (2, 3)]), text.as_bytes());
     }
     lines.note("seeded expressions, in house form or not, against seeded clauses");
     let mut random = Random::new(19);

@@ -173,7 +173,7 @@ pub(super) fn pairs() -> Lines {
 }
 
 /// A fault of each refusal, in the paper's order, put into the whole case.
-const FAULTS: [(u8, &[(usize, u8)]); 12] = [
+pub(super) const FAULTS: [(u8, &[(usize, u8)]); 12] = [
     (2, &[(1, b'f')]),
     (3, &[(4, 2)]),
     (4, &[(5, 0)]),

@@ -1,6 +1,7 @@
 //! MEL, lent buffers, goal texts and the sheet.
 
 use super::paper::whole_case;
+use super::record::FAULTS;
 use super::{Lines, waiting};
 use crate::build::Parts;
 use crate::cases::{hex, unhex};
@@ -178,6 +179,14 @@ pub(super) fn sheets() -> Lines {
         input.extend(vec![0; more]);
         lines.sheet(&input);
     }
+    lines.note("a fault of each refusal");
+    for (_, fault) in FAULTS {
+        let mut changed = record.clone();
+        for (place, value) in fault {
+            changed[*place] = *value;
+        }
+        lines.sheet(&changed);
+    }
     lines.note("form and no form");
     for goals in 1..=4 {
         for parts in super::every_order(goals) {
@@ -188,5 +197,10 @@ pub(super) fn sheets() -> Lines {
     lines.sheet(&Parts::longest_mel().record());
     lines.note("the longest form");
     lines.sheet(&Parts::longest_form().record());
+    lines.note("the longest record, 2,102 bytes, and one byte more");
+    let mut record = Parts::longest_record().record();
+    lines.sheet(&record);
+    record.push(33);
+    lines.sheet(&record);
     lines
 }

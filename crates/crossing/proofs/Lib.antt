@@ -1,4 +1,0 @@
-pub mod Meeting
-pub mod Pairs
-pub mod Trying
-pub mod Theorems
