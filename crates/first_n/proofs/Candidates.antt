@@ -1,6 +1,6 @@
 -- The sets of candidates have the goals of every N, and only such.
 use mathlib.Core.Path.{_≡_, refl, sym, ap, ap₂, _∙_, subst}
-use mathlib.Core.Bool.{Bool, true, false, not, _&&_, _||_, cond, true≢false}
+use mathlib.Core.Bool.{Bool, true, false, not, _&&_, _||_, cond, true≢false, false≢true}
 use mathlib.Core.List.{List}
 use mathlib.Core.Logic.{dite}
 use mathlib.Core.Option.{none, some}
@@ -8,16 +8,14 @@ use Prim.Native.Nat.{ℕ, zero, suc, _+_, _^_, _<_, _≤_}
 use native.Mathlib.Decide.{decLt}
 use native.Mathlib.Numerals.{add-one}
 use native.Mathlib.Omega.{arith}
+use lib.Dec.{eqb}
 use lib.ListN.{getD}
 use lib.Pow.{pow-pos}
-use borrow.Author.Tests.{ne-eqb}
-use Rattle.logic.proofs.Bools.{is-false, and-l, and-r, and-true, or-l, or-r, not-true, or-false, implies-out}
-use Rattle.logic.specs.Quantifiers.{every, implies}
-use Rattle.logic.proofs.Quantifiers.{every-out}
-use Rattle.sets.specs.Sets.{has, union, meet, without, single, common}
-use Rattle.sets.proofs.Laws.{has-union, has-meet, has-without, has-single, has-empty, none-empty}
+use borrow.Author.Tests.{eq-eqb, ne-eqb}
+use Rattle.logic.proofs.Bools.{is-false, and-l, and-r, and-true, or-l, or-r, not-true, or-false}
+use Rattle.sets.specs.Sets.{has, union, meet, without, single}
+use Rattle.sets.proofs.Laws.{has-union, has-meet, has-without, has-single, has-empty}
 use Rattle.sets.proofs.Builder.{union-lt, meet-lt, without-lt}
-use Rattle.sets.proofs.Common.{has-common}
 use Rattle.graph.specs.Graph.{ahead, transposed, Within}
 use Rattle.graph.proofs.Rows.{turned-has, row-lt}
 use Rattle.expression.specs.Expr.{Goals, N}
@@ -28,13 +26,15 @@ use Rattle.first_n.specs.Candidates.{leading, related, seconds, fourths,
 use Rattle.first_n.proofs.Loops.{atD, atC, atB, atA}
 use Rattle.first_n.proofs.Scan.{Left, nowhere}
 
--- no goal is after both
-pub thirds-none : (w : ℕ) (rows prior : List ℕ) (a b : ℕ) → meet (getD rows a 0) (getD rows b 0) ≡ 0 → 0 ≡ thirds rows prior w a b
-unfolding thirds
-thirds-none w rows prior a b e =
-    let past = common rows w (fourths rows prior a b) in
-    sym (none-empty (without 0 past) (λ i. has-without 0 past i ∙ ap (λ (t : Bool). t && not (has past i)) (has-empty i)))
-    ∙ ap (λ (m : ℕ). without m past) (sym e)
+-- how the set of the candidates for c is found
+module _ (rows prior : List ℕ) where
+  pub thirds-none : (a b : ℕ) → fourths rows prior a b ≡ 0 → 0 ≡ thirds rows prior a b
+  unfolding thirds
+  thirds-none a b f = sym (ap (λ (t : Bool). cond t 0 (meet (getD rows a 0) (getD rows b 0))) (eq-eqb (fourths rows prior a b) 0 f))
+
+  pub thirds-some : (a b : ℕ) → (fourths rows prior a b ≡ 0 → ⊥) → meet (getD rows a 0) (getD rows b 0) ≡ thirds rows prior a b
+  unfolding thirds
+  thirds-some a b f = sym (ap (λ (t : Bool). cond t 0 (meet (getD rows a 0) (getD rows b 0))) (ne-eqb (fourths rows prior a b) 0 f))
 
 -- the goals that are before some goal
 pub leading-none : (prior : List ℕ) → 0 ≡ leading prior 0
@@ -95,11 +95,14 @@ module _ (w : ℕ) (rows prior : List ℕ) (n : ℕ) (most : n ≤ w) (turned : 
   unfolding seconds
   seconds-lt a = without-lt n (without lead (related rows prior a)) (single a) (without-lt n lead (related rows prior a) lead-lt)
 
-  thirds-lt : (a b : ℕ) → thirds rows prior w a b < 2 ^ n
+  thirds-lt : (a b : ℕ) → thirds rows prior a b < 2 ^ n
   unfolding thirds
-  thirds-lt a b =
-      without-lt n (meet (getD rows a 0) (getD rows b 0)) (common rows w (fourths rows prior a b))
-      (meet-lt n (getD rows a 0) (getD rows b 0) (subst (λ (l : List ℕ). getD l a 0 < 2 ^ n) (sym within) (row-lt w n (ahead rows) a most)))
+  thirds-lt a b = go (eqb (fourths rows prior a b) 0)
+    where
+      go : (t : Bool) → cond t 0 (meet (getD rows a 0) (getD rows b 0)) < 2 ^ n
+      go true = pow-pos n
+      go false =
+          meet-lt n (getD rows a 0) (getD rows b 0) (subst (λ (l : List ℕ). getD l a 0 < 2 ^ n) (sym within) (row-lt w n (ahead rows) a most))
 
   module _ (a b c d : ℕ) (la : a < n) (lb : b < n) (lc : c < n) (ld : d < n) where
     lasts-has : has (lasts rows prior a b c) d ≡ (R b d && not (R a d || R d a)) && not (R c d || R d c)
@@ -122,21 +125,11 @@ module _ (w : ℕ) (rows prior : List ℕ) (n : ℕ) (most : n ≤ w) (turned : 
         has-without (without lead (related rows prior a)) (single a) b
         ∙ ap₂ (λ (s t : Bool). s && not t) (has-without lead (related rows prior a) b ∙ ap₂ (λ (s t : Bool). s && not t) leads apart) unlike
 
-    n-third : N (ahead rows) (suc a) (suc b) (suc c) (suc d) → has (thirds rows prior w a b) c ≡ true
-    unfolding thirds
+    n-third : N (ahead rows) (suc a) (suc b) (suc c) (suc d) → has (thirds rows prior a b) c ≡ true
     n-third x =
         let fourth : has (fourths rows prior a b) d ≡ true = fourths-has a b d la ld ∙ simp (x .bd, x .ad, x .da) in
-        let open-c : has (common rows w (fourths rows prior a b)) c ≡ false
-        = is-false (has (common rows w (fourths rows prior a b)) c)
-        (λ e.
-        true≢false
-        (sym
-        (implies-out (has (fourths rows prior a b) d) (R d c)
-        (every-out w (λ y. implies (has (fourths rows prior a b) y) (has (getD rows y 0) c)) (sym (has-common rows w (fourths rows prior a b) c (omega arith)) ∙ e) d
-        (omega arith)) fourth)
-        ∙ x .dc)) in
-        has-without (meet (getD rows a 0) (getD rows b 0)) (common rows w (fourths rows prior a b)) c
-        ∙ ap₂ (λ (s t : Bool). s && not t) (has-meet (getD rows a 0) (getD rows b 0) c ∙ ap₂ _&&_ (x .ac) (x .bc)) open-c
+        ap (λ (m : ℕ). has m c) (sym (thirds-some rows prior a b (λ e. true≢false (sym fourth ∙ ap (λ (m : ℕ). has m d) e ∙ has-empty d))))
+        ∙ has-meet (getD rows a 0) (getD rows b 0) c ∙ ap₂ _&&_ (x .ac) (x .bc)
 
     n-last : N (ahead rows) (suc a) (suc b) (suc c) (suc d) → has (lasts rows prior a b c) d ≡ true
     n-last x = lasts-has ∙ simp (x .bd, x .ad, x .da, x .cd, x .dc)
@@ -150,15 +143,15 @@ module _ (w : ℕ) (rows prior : List ℕ) (n : ℕ) (most : n ≤ w) (turned : 
         let r = not-true (has (related rows prior a) b) (and-r (has lead b) (not (has (related rows prior a) b)) (sym (has-without lead (related rows prior a) b) ∙ l)) in
         or-false (R a b) (R b a) (sym (related-has a b la lb) ∙ r)
 
-    third-after : has (thirds rows prior w a b) c ≡ true → (R a c ≡ true) × (R b c ≡ true)
+    third-after : has (thirds rows prior a b) c ≡ true → (R a c ≡ true) × (R b c ≡ true)
     unfolding thirds
-    third-after h =
-        let past = common rows w (fourths rows prior a b) in
-        and-true (R a c) (R b c)
-        (sym (has-meet (getD rows a 0) (getD rows b 0) c)
-        ∙ and-l (has (meet (getD rows a 0) (getD rows b 0)) c) (not (has past c)) (sym (has-without (meet (getD rows a 0) (getD rows b 0)) past c) ∙ h))
+    third-after h = go (eqb (fourths rows prior a b) 0) h
+      where
+        go : (t : Bool) → has (cond t 0 (meet (getD rows a 0) (getD rows b 0))) c ≡ true → (R a c ≡ true) × (R b c ≡ true)
+        go true h = absurd (false≢true (sym (has-empty c) ∙ h))
+        go false h = and-true (R a c) (R b c) (sym (has-meet (getD rows a 0) (getD rows b 0) c) ∙ h)
 
-    make-n : has (seconds rows prior lead a) b ≡ true → has (thirds rows prior w a b) c ≡ true → has (lasts rows prior a b c) d ≡ true
+    make-n : has (seconds rows prior lead a) b ≡ true → has (thirds rows prior a b) c ≡ true → has (lasts rows prior a b c) d ≡ true
         → N (ahead rows) (suc a) (suc b) (suc c) (suc d)
     make-n f h g =
         let ab = second-apart f in
@@ -183,7 +176,7 @@ module _ (w : ℕ) (rows prior : List ℕ) (n : ℕ) (most : n ≤ w) (turned : 
         }
 
     -- what the innermost loop finds where all four are candidates
-    pub hit : has (seconds rows prior lead a) b ≡ true → has (thirds rows prior w a b) c ≡ true → has (lasts rows prior a b c) d ≡ true
+    pub hit : has (seconds rows prior lead a) b ≡ true → has (thirds rows prior a b) c ≡ true → has (lasts rows prior a b c) d ≡ true
         → atD (ahead rows) n (suc a) (suc b) (suc c) (suc d) ≡ some (record { a = a + 1; b = b + 1; c = c + 1; d = d + 1 })
     hit f h g =
         ap (λ (t : Bool). cond t (some (record { a = suc a; b = suc b; c = suc c; d = suc d })) none) (n-is (ahead rows) (make-n f h g))
@@ -198,7 +191,7 @@ module _ (w : ℕ) (rows prior : List ℕ) (n : ℕ) (most : n ≤ w) (turned : 
     pub miss : has (lasts rows prior a b c) d ≡ false → atD (ahead rows) n (suc a) (suc b) (suc c) (suc d) ≡ none
     miss h = past (λ x. true≢false (sym (n-last x) ∙ h))
 
-    past-c : has (thirds rows prior w a b) c ≡ false → atD (ahead rows) n (suc a) (suc b) (suc c) (suc d) ≡ none
+    past-c : has (thirds rows prior a b) c ≡ false → atD (ahead rows) n (suc a) (suc b) (suc c) (suc d) ≡ none
     past-c h = past (λ x. true≢false (sym (n-third x) ∙ h))
 
     past-b : has (seconds rows prior lead a) b ≡ false → atD (ahead rows) n (suc a) (suc b) (suc c) (suc d) ≡ none
@@ -233,7 +226,7 @@ module _ (w : ℕ) (rows prior : List ℕ) (n : ℕ) (most : n ≤ w) (turned : 
             nowhere n (λ d. atD (ahead rows) n (suc a) (suc b) (suc c) d) (λ d ld. past-b a b c d la lb lc ld (ap (λ (m : ℕ). has m b) (sym e) ∙ h)));
       }
 
-  pub left-c : (a b set : ℕ) → a < n → b < n → set ≡ thirds rows prior w a b → Left n (λ c. atC (ahead rows) n (suc a) (suc b) c) (thirds rows prior w a b) set
+  pub left-c : (a b set : ℕ) → a < n → b < n → set ≡ thirds rows prior a b → Left n (λ c. atC (ahead rows) n (suc a) (suc b) c) (thirds rows prior a b) set
   left-c a b set la lb e =
       record {
         goals = thirds-lt a b;

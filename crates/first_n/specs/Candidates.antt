@@ -1,8 +1,10 @@
 -- The sets by which the four loops pass over goals that cannot belong to an N. Row i stands for goal i + 1.
+use mathlib.Core.Bool.{cond}
 use mathlib.Core.List.{List}
 use Prim.Native.Nat.{ℕ, zero, suc}
+use lib.Dec.{eqb}
 use lib.ListN.{getD}
-use Rattle.sets.specs.Sets.{union, meet, without, single, common}
+use Rattle.sets.specs.Sets.{union, meet, without, single}
 
 -- the goals that are before some goal, of the first n
 unfoldable pub leading : List ℕ → ℕ → ℕ
@@ -22,9 +24,9 @@ module _ (rows prior : List ℕ) where
   unfoldable pub fourths : ℕ → ℕ → ℕ
   fourths a b = without (getD rows b 0) (related a)
 
-  -- what can be c for a and b, of w goals at most: not what every candidate for d is before
-  unfoldable pub thirds : ℕ → ℕ → ℕ → ℕ
-  thirds w a b = without (meet (getD rows a 0) (getD rows b 0)) (common rows w (fourths a b))
+  -- what can be c for a and b
+  unfoldable pub thirds : ℕ → ℕ → ℕ
+  thirds a b = cond (eqb (fourths a b) 0) 0 (meet (getD rows a 0) (getD rows b 0))
 
   -- what is d for a, b and c
   unfoldable pub lasts : ℕ → ℕ → ℕ → ℕ

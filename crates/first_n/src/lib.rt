@@ -3,7 +3,6 @@ use graph::Graph;
 ghost use mathlib.Core.Path.{_≡_};
 ghost use Prim.Native.Nat.{_<_, _≤_};
 ghost use denote.Ref.{now};
-ghost use Rattle.sets.specs.Sets as S;
 ghost use Rattle.graph.specs.Graph.{ahead, transposed, Within};
 ghost use Rattle.expression.specs.Expr.{Goals};
 ghost use Rattle.expression.specs.Arrange.{Strict};
@@ -67,31 +66,15 @@ fn fourths(rows: &[u32; Graph::MAX], prior: &[u32; Graph::MAX], a: usize, b: usi
     sets::without32(rows[b], near_a)
 }
 
-// The goals that every goal of a set is before.
-fn after_all(rows: &[u32; Graph::MAX], set: u32) -> u32
-    ensures { λ r. ⌜ r ≡ S.common (now (rows .entry)) 32 set ⌝ }
-{
-    let mut all = sets::below32(Graph::MAX);
-    let mut left = set;
-    while left != 0 {
-        let d = sets::first32(left);
-        all = sets::meet32(all, rows[d]);
-        left = sets::without_first32(left);
-    }
-    all
-}
-
-// The goals that can be c for a and b: after both, and some goal that can be d is not before them.
+// The goals that can be c for a and b: after both. None if no goal can be d.
 fn thirds(rows: &[u32; Graph::MAX], prior: &[u32; Graph::MAX], a: usize, b: usize) -> u32
     requires { ⌜ (a < 32) × (b < 32) ⌝ }
-    ensures { λ r. ⌜ r ≡ C.thirds (now (rows .entry)) (now (prior .entry)) 32 a b ⌝ }
+    ensures { λ r. ⌜ r ≡ C.thirds (now (rows .entry)) (now (prior .entry)) a b ⌝ }
 {
-    let both = sets::meet32(rows[a], rows[b]);
-    if both == 0 {
+    if fourths(rows, prior, a, b) == 0 {
         return 0;
     }
-    let after_ds = after_all(rows, fourths(rows, prior, a, b));
-    sets::without32(both, after_ds)
+    sets::meet32(rows[a], rows[b])
 }
 
 // The goals that are d for a, b and c: those of the candidates that are not in order with c.

@@ -33,7 +33,7 @@ abbrev μ-loop3 : tie.MeasureT-loop3
 μ-loop3 rows prior n answer₀ lead firsts a bs b cs c ds d₀ answer d = n - d
 
 abbrev Inv-loop2 : tie.InvT-loop2
-Inv-loop2 rows prior n answer₀ lead firsts a bs b cs₀ answer cs = (answer ≡ Nothing) × Left n (λ i. atC (ahead rows) n (suc a) (suc b) i) (thirds rows prior 32 a b) cs
+Inv-loop2 rows prior n answer₀ lead firsts a bs b cs₀ answer cs = (answer ≡ Nothing) × Left n (λ i. atC (ahead rows) n (suc a) (suc b) i) (thirds rows prior a b) cs
 
 abbrev μ-loop2 : tie.MeasureT-loop2
 μ-loop2 rows prior n answer₀ lead firsts a bs b cs₀ answer cs = length (members 32 cs)
@@ -74,7 +74,7 @@ c-has : (c : tie.After-first323 Inv-loop3 μ-loop3 Inv-loop2 μ-loop2 Inv-loop �
     let g = c .before .before .before .before in
     let f = g .before .before .before .before in
     let s = f .before .before .before .before .args in
-    has (thirds (s .rows .now) (s .prior .now) 32 (f .first32 .result) (g .first322 .result)) (c .first323 .result) ≡ true
+    has (thirds (s .rows .now) (s .prior .now) (f .first32 .result) (g .first322 .result)) (c .first323 .result) ≡ true
 c-has c =
     left-has _ _ _ _ (c .before .before .loop2 .inv .1) 32 (c .before .before .before .before .before .before .before .before .before .before .before .before .pre .0) (c .before .loop2-test .taken) _ (c .first323 .ensures)
 
