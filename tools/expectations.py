@@ -5,14 +5,14 @@
 
 CASES are files of the conformance kit's format, `QUESTION = ANSWER` a line (kit/README.md): kit/cases/*.txt and kit/vectors/base.txt.
 The answers of drafts.txt come from the paper's text (tools/paper_drafts.py), those of base.txt from an independent annotator, those of
-the other files from the hand-written one of rust/compare. The questions go to crates/drafts/data/cases.txt, the answers, and nothing
-that the program itself printed, to crates/drafts/stdout. A question about the length estimate keeps its answer's bounds, between
+the other files from the hand-written one of rust/compare. The questions go to crates/run_cases/data/cases.txt, the answers, and nothing
+that the program itself printed, to crates/run_cases/stdout. A question about the length estimate keeps its answer's bounds, between
 which the program's answer must lie. A question that passes the program's arrays is an error.
 """
 import sys
 from kit_cases import bytes_of, cases, fail, write_all
 
-# the lengths of the arrays of crates/drafts/src/main.rt
+# the lengths of the arrays of crates/run_cases/src/main.rt
 LINE, RECORD, TEXT, ROOM = 32768, 4096, 1024, 196608
 
 questions, answers = [], []
@@ -31,5 +31,5 @@ for place, question, answer in cases(sys.argv[1:]):
     questions.append(line)
     answers.append(answer)
 text = lambda lines: "".join(line + "\n" for line in lines).encode("ascii")
-write_all({"crates/drafts/data/cases.txt": text(questions), "crates/drafts/stdout": text(answers)})
+write_all({"crates/run_cases/data/cases.txt": text(questions), "crates/run_cases/stdout": text(answers)})
 print(f"{len(questions)} cases")

@@ -1,5 +1,5 @@
 #!/usr/bin/env python3
-"""Writes crates/texts/stdin and crates/texts/stdout: texts to read, and what the paper and the vectors say of them.
+"""Writes crates/run_texts/stdin and crates/run_texts/stdout: texts to read, and what the paper and the vectors say of them.
 
     tools/text_cases.py CASES..        from the repository's root
 
@@ -28,5 +28,5 @@ if not found:
     fail("no case in these files asks for the check of a text")
 if len(given) > INPUT:
     fail(f"the lines are longer than the program's {INPUT} bytes")
-write_all({"crates/texts/stdin": given, "crates/texts/stdout": wanted})
+write_all({"crates/run_texts/stdin": given, "crates/run_texts/stdout": wanted})
 print(f"{len(found)} texts")

@@ -1,10 +1,9 @@
--- The values of an answer tell which case it is, on every input.
---     read-told, text-told, check-told, form-told, estimate-told, mel-told     number 0 exactly if it is accepted, else a refusal of the operation
---     form-thirteen, estimate-thirteen                                         13 exactly if it is "no form"
---     check-verdict                                                            number 0 exactly if a verdict is given, 1 or 2
---     read-one, text-one, check-one, form-one, mel-one                         only one answer has the values promised
+-- What an answer tells, on every input (specs/Cases.antt).
+--     refuses      each operation refuses with its own numbers and those of reading
+--     numbers      the number is 0 exactly if the call is accepted; 13 exactly with its four goals
+--     one-answer   one answer has an outcome
 use mathlib.Core.Path.{_≡_, refl, sym, ap, ap₂, _∙_, subst}
-use mathlib.Core.Bool.{Bool, true, false, _&&_, cond, true≢false, false≢true}
+use mathlib.Core.Bool.{_&&_}
 use mathlib.Core.List.{List}
 use mathlib.Core.Logic.{_⊎_, inl, inr, ⊎-elim, _↔_}
 use mathlib.Core.Option.{Option, none, some}
@@ -12,16 +11,14 @@ use Prim.Native.Nat.{ℕ, _≤_}
 use native.Mathlib.Omega.{arith}
 use lib.Dec.{leb}
 use lib.ListN.{length}
-use Rattle.text.specs.Lent.{fits}
-use Rattle.refusal.specs.declared.Refusal.{Refusal}
-use Rattle.fields.specs.Fields.{goalCount}
-use Rattle.reading.specs.declared.Reading.{Reading}
-use Rattle.reading.specs.declared.Reading.the-variants.{Fine, Refused as Unread}
-use Rattle.reading.specs.Reading.{reading}
-use Rattle.reading.proofs.Must.{between-low, between-high}
-use Rattle.record.specs.WellFormed.{WellFormed}
+use Rattle.record_rules.specs.declared.Refusal.{Refusal}
+use Rattle.record_rules.specs.declared.Reading.{Reading}
+use Rattle.record_rules.specs.declared.Reading.the-variants.{Fine, Refused as Unread}
+use Rattle.record_rules.specs.Reading.{reading}
+use Rattle.record_rules.specs.Outcome.{Outcome, refused, accepted, readThen, sizeIn}
+use Rattle.record_rules.proofs.Outcomes.{told-apart, one-value, one-refusal, number-zero, All, all-refused, all-read, all-only, all-next, all-size}
+use Rattle.record_fields.specs.Fields.{goalCount}
 use Rattle.record.proofs.WellFormed.{fine-well-formed}
-use Rattle.record.proofs.Limits.{text-some}
 use Rattle.record.proofs.Refusals.{refusal-number}
 use Rattle.order.specs.Order.{before}
 use Rattle.expression.specs.Expr.{Expr}
@@ -29,325 +26,210 @@ use Rattle.expression.specs.Expr as E
 use Rattle.expression.specs.Form.{form}
 use Rattle.expression.specs.Search.{Four, firstN}
 use Rattle.expression.specs.Text.{text}
-use Rattle.grammar.specs.Reader as R
-use Rattle.grammar.specs.Numbers.{misuse}
-use Rattle.grammar.specs.Reading.{Ruling, refusal, answer, numbered, decided, readText}
-use Rattle.grammar.specs.Check as C
-use Rattle.grammar.specs.Check.{firstDiffer, verdict, judged, checked}
-use Rattle.compare.specs.declared.Verdict as Verdicts
-use Rattle.compare.specs.declared.Verdict.the-variants.{Same, Differs}
-use Rattle.compare.specs.Verdicts.{verdictOf}
-use Rattle.first_n.specs.declared.Four.{Four as Goals}
+use Rattle.expression_grammar.specs.Reader as R
+use Rattle.expression_grammar.specs.Numbers.{misuse}
+use Rattle.expression_grammar.specs.TextRules.{numbered, decided, readText}
+use Rattle.expression_grammar.specs.Check.{same, firstDiffer, verdict, checked}
+use Rattle.order_compare.specs.declared.Pair.{Pair}
+use Rattle.order_compare.specs.declared.Verdict as Verdicts
+use Rattle.order_compare.specs.declared.Verdict.the-variants.{Same, Differs}
+use Rattle.order_compare.specs.Verdicts.{verdictOf}
+use Rattle.form_first_n.specs.declared.Four.{Four as Goals}
+use Rattle.form_first_n.specs.FirstN.{four}
 use Rattle.form.specs.Form as F
-use Rattle.form.specs.declared.Written as Forms
-use Rattle.form.specs.declared.Written.the-variants as W
-use Rattle.form.specs.declared.Estimate as Estimates
-use Rattle.form.specs.declared.Estimate.the-variants as L
-use Rattle.form.proofs.Plans.{plan-refused, plan-fine, settled-some}
-use Rattle.form.proofs.Theorems.{no-form}
+use Rattle.form.specs.declared.FormAnswer as Forms
+use Rattle.form.specs.declared.FormAnswer.the-variants as W
+use Rattle.form.proofs.Outcomes.{form-refused, shown-refused, shown-fine}
+use Rattle.form.proofs.Theorems.{demand, no-form, found-thirteen}
 use Rattle.mel.specs.Annotation as M
-use Rattle.mel.specs.Annotation.{mel, melAnswer}
-use Rattle.mel.specs.declared.Written as Mels
-use Rattle.mel.specs.declared.Written.the-variants as T
+use Rattle.mel.specs.declared.MelAnswer as Mels
+use Rattle.mel.specs.declared.MelAnswer.the-variants as T
 use Rattle.annotator.specs.declared.ReadAnswer.{ReadAnswer}
-use Rattle.annotator.specs.declared.ReadAnswer.the-variants.{Accepted, Refused}
+use Rattle.annotator.specs.declared.ReadAnswer.the-variants.{Accepted as Count, Refused}
+use Rattle.annotator.specs.declared.Span.{Span}
 use Rattle.annotator.specs.declared.TextAnswer.{TextAnswer}
 use Rattle.annotator.specs.declared.TextAnswer.the-variants.{At, NoText}
 use Rattle.annotator.specs.declared.CheckAnswer.{CheckAnswer}
 use Rattle.annotator.specs.declared.CheckAnswer.the-variants.{Verdict, Rejected}
-use Rattle.annotator.specs.Answers.{afterReading, ReadValues, noRecord, readValues, read, TextValues, noText, textValues, textOf, goalText, CheckValues, noCheck, saying, checkValues, ruled, check}
-use Rattle.annotator.specs.Cases.{readAccepted, textAccepted, checkAccepted, formAccepted, estimateAccepted, melAccepted, formNone, estimateNone, OfReading, OfText, OfCheck, OfForm, OfEstimate, OfMel, Told}
-use Rattle.mel.proofs.Some.{mel-some}
-use Rattle.annotator.proofs.Texts.{form-some}
+use Rattle.annotator.specs.Answers.{read, readOutcome, goalText, textOutcome, noSpan, check, checkOutcome}
+use Rattle.annotator.specs.Cases.{OfReading, OfText, OfCheck, OfForm, OfEstimate, OfMel, Refuses, Numbers, OneAnswer}
 
--- ---- the two cases
-told-accepted : (P : ℕ → Type 0) (k : ℕ) → k ≡ 0 → Told true P k
-told-accepted P k e = record { number-zero = (λ z. refl, λ t. e); number-refuses = λ f. absurd (true≢false f) }
+-- ---- the numbers of refusals
+abbrev Turned : {A : Type 0} → (ℕ → Type 0) → Outcome A → Type 0
+Turned P o = All (λ k p. P k) (λ x. Unit {0}) o
 
-told-refused : (P : ℕ → Type 0) (k : ℕ) → 1 ≤ k → P k → Told false P k
-told-refused P k l p = record { number-zero = (λ z. absurd (omega arith), λ t. absurd (false≢true t)); number-refuses = λ f. p }
+started : {A : Type 0} (P : ℕ → Type 0) (b : List ℕ) (o : Outcome A) → ((k : ℕ) → OfReading k → P k) → Turned P o → Turned P (readThen b o)
+started P b o h t = all-read (λ k p. P k) (λ x. Unit {0}) b o (λ r e. h (r .number) (refusal-number b r e)) (λ e. t)
 
--- answers with the same number are both accepted or both refused
-alike : (t u : Bool) (P : ℕ → Type 0) (k : ℕ) → Told t P k → Told u P k → t ≡ u
-alike true u P k h i = sym (i .number-zero .0 (h .number-zero .1 refl))
-alike false true P k h i = h .number-zero .0 (i .number-zero .1 refl)
-alike false false P k h i = refl
+text-turned : (n : ℕ) (t : List ℕ) → Turned OfCheck (readText n t)
+unfolding readText
+text-turned n t =
+    all-only (λ k p. OfCheck k) (λ x. Unit {0}) (leb 1 (length t) && leb (length t) 512) 15 0 (decided n t (R.read 32 t)) (inr (omega arith, omega arith))
+    (λ e. inside (R.read 32 t))
+  where
+    used : (e : Expr) (o : Option ℕ) → Turned OfCheck (numbered e o)
+    used e none = tt
+    used e (some p) = inr (omega arith, omega arith)
 
-refusal-is : (r u : Refusal) → r .number ≡ u .number → r .place ≡ u .place → r ≡ u
-refusal-is r u n p = ap₂ (λ (k l : ℕ). made k l) n p
+    inside : (r : R.Scan) → Turned OfCheck (decided n t r)
+    inside (R.stops k) = inr (omega arith, omega arith)
+    inside (R.reads e) = used e (misuse n t e)
+
+thirteen-turned : (P : ℕ → Type 0) (o : Option Four) (t : List ℕ) → P 13 → Turned P (F.orThirteen o t)
+thirteen-turned P none t h = tt
+thirteen-turned P (some q) t h = h
+
+sized : (P : ℕ → Type 0) (o : Outcome (List ℕ)) (buf : List ℕ) → P 12 → Turned P o → Turned P (sizeIn o buf)
+sized P o buf h u = all-size (λ k p. P k) (λ x. Unit {0}) (λ x. Unit {0}) o buf u (λ t s. (h, tt))
+
+-- ---- all of them are 1 or more
+module _ (k : ℕ) where
+  text-some : OfText k → 1 ≤ k
+  text-some h = ⊎-elim (λ a. a .0) (λ a. omega arith) h
+
+  check-some : OfCheck k → 1 ≤ k
+  check-some h = ⊎-elim (λ a. a .0) (λ a. omega arith) h
+
+  form-some : OfForm k → 1 ≤ k
+  form-some h = ⊎-elim (λ a. a .0) (λ a. ⊎-elim (λ c. omega arith) (λ c. omega arith) a) h
+
+  estimate-some : OfEstimate k → 1 ≤ k
+  estimate-some h = ⊎-elim (λ a. a .0) (λ a. omega arith) h
+
+  mel-some : OfMel k → 1 ≤ k
+  mel-some h = ⊎-elim (λ a. a .0) (λ a. omega arith) h
+
+module _ (b : List ℕ) where
+  read-turned : Turned OfReading (read b)
+  unfolding read
+  read-turned = started OfReading b (accepted (goalCount b)) (λ k h. h) tt
+
+  goal-turned : (g : ℕ) → Turned OfText (goalText b g)
+  unfolding goalText
+  goal-turned g =
+      started OfText b _ (λ k h. inl h) (all-only (λ k p. OfText k) (λ x. Unit {0}) (leb 1 g && leb g (goalCount b)) 14 0 _ (inr refl) (λ e. tt))
+
+  check-turned : (t : List ℕ) → Turned OfCheck (check b t)
+  unfolding check checked
+  check-turned t =
+      started OfCheck b _ (λ k h. inl h)
+      (all-next (λ k p. OfCheck k) (λ x. Unit {0}) (λ x. Unit {0}) (readText (goalCount b) t) _ (text-turned (goalCount b) t) (λ e s. tt))
+
+  form-turned : (P : ℕ → Type 0) → ((k : ℕ) → OfReading k → P k) → P 13 → Turned P (F.formText b)
+  unfolding F.formText
+  form-turned P r h = started P b _ r (thirteen-turned P (F.firstFour b) _ h)
+
+  answer-turned : (buf : List ℕ) → Turned OfForm (F.formAnswer b buf)
+  answer-turned buf = sized OfForm (F.formText b) buf (inr (inl refl)) (form-turned OfForm (λ k h. inl h) (inr (inr refl)))
+
+  estimate-turned : (x : Outcome (List ℕ)) (o : Outcome ℕ) → Turned OfEstimate x → F.Estimated x o → Turned OfEstimate o
+  estimate-turned (refused k p) o h e = subst (Turned OfEstimate) (sym e) h
+  estimate-turned (accepted t) o h e = subst (Turned OfEstimate) (sym (e .gives)) tt
+
+  length-turned : (o : Outcome ℕ) → F.Estimated (F.formText b) o → Turned OfEstimate o
+  length-turned o e = estimate-turned (F.formText b) o (form-turned OfEstimate (λ k h. inl h) (inr refl)) e
+
+  mel-turned : (buf : List ℕ) → Turned OfMel (M.melAnswer b buf)
+  unfolding M.melOutcome
+  mel-turned buf = sized OfMel (M.melOutcome b) buf (inr refl) (started OfMel b (accepted (M.mel b)) (λ k h. inl h) tt)
+
+  pub refuses : Refuses b
+  refuses =
+      record {
+        of-read = λ k p. all-refused _ _ read-turned;
+        of-text = λ g k p. all-refused _ _ (goal-turned g);
+        of-check = λ t k p. all-refused _ _ (check-turned t);
+        of-form = λ buf k p. all-refused _ _ (answer-turned buf);
+        of-estimate = λ o k p e. all-refused _ _ (length-turned o e);
+        of-mel = λ buf k p. all-refused _ _ (mel-turned buf);
+      }
+
+  -- 13 exactly with its four goals
+  thirteen : (buf : List ℕ) → (F.formAnswer b buf ≡ refused 13 0) ↔ ((q : Four) × (F.shown b ≡ some q))
+  thirteen buf = go (reading b) refl
+    where
+      go : (s : Reading) → reading b ≡ s → (F.formAnswer b buf ≡ refused 13 0) ↔ ((q : Four) × (F.shown b ≡ some q))
+      go Fine e =
+          let w = fine-well-formed b e in (
+            λ h. let (q, n) = demand b w .without buf h in (q, n .shows),
+            λ (q, h). found-thirteen b w buf q (sym (shown-fine b e) ∙ h),
+          )
+      go (Unread r) e = (
+        λ h. absurd (let z = one-refusal (sym (ap (λ (o : Outcome (List ℕ)). sizeIn o buf) (form-refused b r e)) ∙ h) in omega (arith, z .0, refusal-number b r e .1)),
+        λ (q, h). absurd (let k = sym (shown-refused b r e) ∙ h in let z : _≡_ {A = ℕ} 0 1 = cc in omega arith),
+      )
+
+  pub numbers : Numbers b
+  numbers =
+      record {
+        of-read = number-zero 0 (read b) (λ k p e. refuses .of-read k p e .0);
+        of-text = λ g. number-zero noSpan (goalText b g) (λ k p e. text-some k (refuses .of-text g k p e));
+        of-check = λ t. number-zero same (check b t) (λ k p e. check-some k (refuses .of-check t k p e));
+        of-form = λ buf. number-zero 0 (F.formAnswer b buf) (λ k p e. form-some k (refuses .of-form buf k p e));
+        of-estimate = λ o h. number-zero 0 o (λ k p e. estimate-some k (refuses .of-estimate o k p h e));
+        of-mel = λ buf. number-zero 0 (M.melAnswer b buf) (λ k p e. mel-some k (refuses .of-mel buf k p e));
+        of-thirteen = thirteen;
+      }
+
+-- ---- one answer has an outcome
+refusal-is : {A : Type 0} (r u : Refusal) → _≡_ {A = Outcome A} (refused (r .number) (r .place)) (refused (u .number) (u .place)) → r ≡ u
+refusal-is r u e = ap₂ (λ (k p : ℕ). made k p) (one-refusal e .0) (one-refusal e .1)
   where
     made : ℕ → ℕ → Refusal
-    made k l = record { number = k; place = l }
+    made k p = record { number = k; place = p }
 
--- ---- the check's text
-abbrev Turned : Ruling Expr → Type 0
-Turned (refusal k p) = (15 ≤ k) × (k ≤ 17)
-Turned (answer e) = Unit {0}
-
-turned : (n : ℕ) (t : List ℕ) → Turned (readText n t)
-unfolding readText
-turned n t = sizes (leb 1 (length t) && leb (length t) 512)
+verdict-is : (v u : Verdicts.Verdict) → verdictOf v ≡ verdictOf u → v ≡ u
+verdict-is Same Same e = refl
+verdict-is Same (Differs p) e = absurd (let z : _≡_ {A = ℕ} 0 1 = cc in omega arith)
+verdict-is (Differs p) Same e = absurd (let z : _≡_ {A = ℕ} 0 1 = cc in omega arith)
+verdict-is (Differs p) (Differs q) e =
+    let i : p .i ≡ q .i = cc in
+    let j : p .j ≡ q .j = cc in
+    ap₂ (λ (i j : ℕ). Differs (made i j)) i j
   where
-    used : (e : Expr) (o : Option ℕ) → Turned (numbered e o)
-    used e none = tt
-    used e (some p) = (omega arith, omega arith)
+    made : ℕ → ℕ → Pair
+    made i j = record { i = i; j = j }
 
-    inside : (r : R.Reading) → Turned (decided n t r)
-    inside (R.refused k) = (omega arith, omega arith)
-    inside (R.accepted e) = used e (misuse n t e)
+read-one : (a c : ReadAnswer) → readOutcome a ≡ readOutcome c → a ≡ c
+read-one (Count n) (Count m) e = ap Count (one-value e)
+read-one (Count n) (Refused r) e = absurd (told-apart (sym e))
+read-one (Refused r) (Count n) e = absurd (told-apart e)
+read-one (Refused r) (Refused u) e = ap Refused (refusal-is r u e)
 
-    sizes : (x : Bool) → Turned (cond x (decided n t (R.read 32 t)) (refusal 15 0))
-    sizes true = inside (R.read 32 t)
-    sizes false = (omega arith, omega arith)
+text-one : (a c : TextAnswer) → textOutcome a ≡ textOutcome c → a ≡ c
+text-one (At s) (At t) e = ap At (one-value e)
+text-one (At s) (NoText r) e = absurd (told-apart (sym e))
+text-one (NoText r) (At s) e = absurd (told-apart e)
+text-one (NoText r) (NoText u) e = ap NoText (refusal-is r u e)
 
-verdict-zero : (v : Verdicts.Verdict) → saying (verdictOf v) .number ≡ 0
-verdict-zero Same = refl
-verdict-zero (Differs p) = refl
+check-one : (a c : CheckAnswer) → checkOutcome a ≡ checkOutcome c → a ≡ c
+check-one (Verdict v) (Verdict u) e = ap Verdict (verdict-is v u (one-value e))
+check-one (Verdict v) (Rejected r) e = absurd (told-apart (sym e))
+check-one (Rejected r) (Verdict v) e = absurd (told-apart e)
+check-one (Rejected r) (Rejected u) e = ap Rejected (refusal-is r u e)
 
-verdict-some : (v : C.Verdict) → (saying v .verdict ≡ 1) ⊎ (saying v .verdict ≡ 2)
-verdict-some C.same = inl refl
-verdict-some (C.differs i j) = inr refl
+mel-one : (a c : Mels.MelAnswer) → M.outcome a ≡ M.outcome c → a ≡ c
+mel-one (T.Done n) (T.Done m) e = ap T.Done (one-value e)
+mel-one (T.Done n) (T.Refused r) e = absurd (told-apart (sym e))
+mel-one (T.Refused r) (T.Done n) e = absurd (told-apart e)
+mel-one (T.Refused r) (T.Refused u) e = ap T.Refused (refusal-is r u e)
 
-abbrev Given : CheckValues → Type 0
-Given v = (v .number ≡ 0) ↔ ((v .verdict ≡ 1) ⊎ (v .verdict ≡ 2))
-
-module _ (b : List ℕ) where
-  -- ---- Reading.
-  pub read-told : (a : ReadAnswer) → readValues a ≡ read b → Told (readAccepted a) OfReading (read b .number)
-  unfolding read
-  read-told (Accepted n) e = told-accepted OfReading _ (sym (ap (λ (v : ReadValues). v .number) e))
-  read-told (Refused r) e = go (reading b) refl e
-    where
-      fine : ReadValues
-      fine = record { number = 0; place = 0; goals = goalCount b }
-
-      go : (s : Reading) → reading b ≡ s → noRecord (r .number) (r .place) ≡ afterReading noRecord s fine
-          → Told false OfReading (afterReading noRecord s fine .number)
-      go Fine q e = absurd (omega (arith, ap (λ (v : ReadValues). v .goals) e, fine-well-formed b q .goals-from))
-      go (Unread u) q e = let h = refusal-number b u q in told-refused OfReading _ (h .0) h
-
-  -- ---- Goal text.
-  pub text-told : (g : ℕ) (a : TextAnswer) → textValues a ≡ goalText b g → Told (textAccepted a) OfText (goalText b g .number)
-  unfolding goalText
-  text-told g (At s) e = told-accepted OfText _ (sym (ap (λ (v : TextValues). v .number) e))
-  text-told g (NoText r) e = go (reading b) refl e
-    where
-      by-range : WellFormed b → (t : Bool) → leb 1 g && leb g (goalCount b) ≡ t → noText (r .number) (r .place) ≡ cond t (textOf b g) (noText 14 0)
-          → Told false OfText (cond t (textOf b g) (noText 14 0) .number)
-      by-range w true h e = absurd (omega (arith, ap (λ (v : TextValues). v .size) e, text-some b w g (between-low 1 (goalCount b) g h) (between-high 1 (goalCount b) g h)))
-      by-range w false h e = told-refused OfText 14 (omega arith) (inr refl)
-
-      go : (s : Reading) → reading b ≡ s
-          → noText (r .number) (r .place) ≡ afterReading noText s (cond (leb 1 g && leb g (goalCount b)) (textOf b g) (noText 14 0))
-          → Told false OfText (afterReading noText s (cond (leb 1 g && leb g (goalCount b)) (textOf b g) (noText 14 0)) .number)
-      go Fine q e = by-range (fine-well-formed b q) (leb 1 g && leb g (goalCount b)) refl e
-      go (Unread u) q e = let h = refusal-number b u q in told-refused OfText _ (h .0) (inl h)
-
-  -- ---- Check of an expression.
-  pub check-told : (t : List ℕ) (a : CheckAnswer) → checkValues a ≡ check b t → Told (checkAccepted a) OfCheck (check b t .number)
-  unfolding check checked
-  check-told t (Verdict v) e = told-accepted OfCheck _ (sym (ap (λ (v : CheckValues). v .number) e) ∙ verdict-zero v)
-  check-told t (Rejected r) e = go (reading b) refl e
-    where
-      n : ℕ
-      n = goalCount b
-
-      by-text : (x : Ruling Expr) → Turned x → noCheck (r .number) (r .place) ≡ ruled (judged n (before b) x)
-          → Told false OfCheck (ruled (judged n (before b) x) .number)
-      by-text (refusal k p) h e = told-refused OfCheck k (omega arith) (inr h)
-      by-text (answer x) h e =
-          let z = ap (λ (v : CheckValues). v .verdict) e in
-          absurd (⊎-elim (λ o. omega (arith, z, o)) (λ o. omega (arith, z, o)) (verdict-some (verdict (firstDiffer n (before b) (E.before x)))))
-
-      go : (s : Reading) → reading b ≡ s → noCheck (r .number) (r .place) ≡ afterReading noCheck s (ruled (judged n (before b) (readText n t)))
-          → Told false OfCheck (afterReading noCheck s (ruled (judged n (before b) (readText n t))) .number)
-      go Fine q e = by-text (readText n t) (turned n t) e
-      go (Unread u) q e = let h = refusal-number b u q in told-refused OfCheck _ (h .0) (inl h)
-
-  -- a verdict, 1 or 2, exactly if nothing is refused
-  pub check-verdict : (t : List ℕ) → (check b t .number ≡ 0) ↔ ((check b t .verdict ≡ 1) ⊎ (check b t .verdict ≡ 2))
-  unfolding check checked
-  check-verdict t = go (reading b) refl
-    where
-      n : ℕ
-      n = goalCount b
-
-      not-given : (k p : ℕ) → 1 ≤ k → Given (noCheck k p)
-      not-given k p l = (λ z. absurd (omega arith), λ o. ⊎-elim (λ z. absurd (omega arith)) (λ z. absurd (omega arith)) o)
-
-      said : (v : C.Verdict) → Given (saying v)
-      said C.same = (λ z. inl refl, λ o. refl)
-      said (C.differs i j) = (λ z. inr refl, λ o. refl)
-
-      by-text : (x : Ruling Expr) → Turned x → Given (ruled (judged n (before b) x))
-      by-text (refusal k p) h = not-given k p (omega arith)
-      by-text (answer x) h = said (verdict (firstDiffer n (before b) (E.before x)))
-
-      go : (s : Reading) → reading b ≡ s → Given (afterReading noCheck s (ruled (judged n (before b) (readText n t))))
-      go Fine q = by-text (readText n t) (turned n t)
-      go (Unread u) q = not-given (u .number) (u .place) (refusal-number b u q .0)
-
-  -- ---- MEL.
-  pub mel-told : (buf : List ℕ) (a : Mels.Written) → M.values a ≡ melAnswer b buf → Told (melAccepted a) OfMel (melAnswer b buf .number)
-  unfolding melAnswer M.answer M.answerTo M.values
-  mel-told buf (T.Done n) e = told-accepted OfMel _ (sym (ap (λ (v : M.Values). v .number) e))
-  mel-told buf (T.Refused r) e = go (reading b) refl e
-    where
-      by-room : 1 ≤ length (mel b) → (t : Bool) → M.refused (r .number) (r .place) ≡ cond t (M.done (length (mel b))) (M.refused 12 (length (mel b)))
-          → Told false OfMel (cond t (M.done (length (mel b))) (M.refused 12 (length (mel b))) .number)
-      by-room h true e = absurd (omega (arith, ap (λ (v : M.Values). v .size) e))
-      by-room h false e = told-refused OfMel 12 (omega arith) (inr refl)
-
-      go : (s : Reading) → reading b ≡ s → M.refused (r .number) (r .place) ≡ M.answer s (mel b) buf → Told false OfMel (M.answer s (mel b) buf .number)
-      go Fine q e = by-room (mel-some b (fine-well-formed b q)) (fits (mel b) buf) e
-      go (Unread u) q e = let h = refusal-number b u q in told-refused OfMel _ (h .0) (inl h)
-
--- ---- The form, and the estimate of its length: from what is settled.
-abbrev Settled : F.Plan → Type 0
-Settled (F.refused k p) = OfReading k
-Settled (F.noForm q) = 1 ≤ q .a
-Settled (F.written t) = 1 ≤ length t
-
-settled : (b : List ℕ) → Settled (F.plan b)
-settled b = go (reading b) refl
+four-is : (q r : Goals) → _≡_ {A = Option Four} (some (four q)) (some (four r)) → q ≡ r
+four-is q r e = let f : four q ≡ four r = cc in ap back f
   where
-    by-search : WellFormed b → reading b ≡ Fine → (o : Option Four) → firstN (before b) (goalCount b) ≡ o
-        → Settled (F.settled o (text (form (before b) (goalCount b))))
-    by-search w q none e = form-some b w e
-    by-search w q (some f) e = no-form b w f (plan-fine b q ∙ settled-some (text (form (before b) (goalCount b))) f e) .shape .goals .0 .0
+    back : Four → Goals
+    back x = record { a = x .a; b = x .b; c = x .c; d = x .d }
 
-    go : (s : Reading) → reading b ≡ s → Settled (F.plan b)
-    go Fine q = subst Settled (sym (plan-fine b q)) (by-search (fine-well-formed b q) q (firstN (before b) (goalCount b)) refl)
-    go (Unread r) q = subst Settled (sym (plan-refused b r q)) (refusal-number b r q)
+form-one : (a c : Forms.FormAnswer) → F.outcome a ≡ F.outcome c → F.goals a ≡ F.goals c → a ≡ c
+form-one (W.Done n) (W.Done m) e g = ap W.Done (one-value e)
+form-one (W.Done n) (W.NoForm q) e g = absurd (told-apart (sym e))
+form-one (W.Done n) (W.Refused r) e g = absurd (told-apart (sym e))
+form-one (W.NoForm q) (W.Done n) e g = absurd (told-apart e)
+form-one (W.NoForm q) (W.NoForm r) e g = ap W.NoForm (four-is q r g)
+form-one (W.NoForm q) (W.Refused r) e g = absurd (let z : _≡_ {A = ℕ} 0 1 = cc in omega arith)
+form-one (W.Refused r) (W.Done n) e g = absurd (told-apart e)
+form-one (W.Refused r) (W.NoForm q) e g = absurd (let z : _≡_ {A = ℕ} 0 1 = cc in omega arith)
+form-one (W.Refused r) (W.Refused u) e g = ap W.Refused (refusal-is r u e)
 
--- k is the number of an answer that is accepted or not, "no form" or not
-abbrev Case : Bool → Bool → (ℕ → Type 0) → ℕ → Type 0
-Case t u P k = Told t P k × ((k ≡ 13) ↔ (u ≡ true))
-
-done-case : (P : ℕ → Type 0) (k : ℕ) → k ≡ 0 → Case true false P k
-done-case P k e = (told-accepted P k e, (λ z. absurd (omega arith), λ f. absurd (false≢true f)))
-
-none-case : (P : ℕ → Type 0) (k : ℕ) → k ≡ 13 → P k → Case false true P k
-none-case P k e p = (told-refused P k (omega arith) p, (λ z. refl, λ f. e))
-
-refused-case : (P : ℕ → Type 0) (k : ℕ) → 1 ≤ k → k ≤ 12 → P k → Case false false P k
-refused-case P k l h p = (told-refused P k l p, (λ z. absurd (omega arith), λ f. absurd (false≢true f)))
-
-module _ (buf : List ℕ) where
-  form-case : (p : F.Plan) → Settled p → (a : Forms.Written) → F.values a ≡ F.answer p buf → Case (formAccepted a) (formNone a) OfForm (F.answer p buf .number)
-  unfolding F.answer
-  form-case (F.refused k l) h (W.Done n) e = absurd (omega (arith, ap (λ (v : F.Values). v .number) e))
-  form-case (F.refused k l) h (W.NoForm q) e = absurd (omega (arith, ap (λ (v : F.Values). v .number) e))
-  form-case (F.refused k l) h (W.Refused r) e = refused-case OfForm k (h .0) (omega arith) (inl h)
-  form-case (F.noForm f) h (W.Done n) e = absurd (omega (arith, ap (λ (v : F.Values). v .number) e))
-  form-case (F.noForm f) h (W.NoForm q) e = none-case OfForm 13 refl (inr (inr refl))
-  form-case (F.noForm f) h (W.Refused r) e = absurd (omega (arith, ap (λ (v : F.Values). v .a) e))
-  form-case (F.written t) h a e = go (fits t buf) a e
-    where
-      go : (x : Bool) (a : Forms.Written) → F.values a ≡ cond x (F.done (length t)) (F.refusal 12 (length t))
-          → Case (formAccepted a) (formNone a) OfForm (cond x (F.done (length t)) (F.refusal 12 (length t)) .number)
-      go true (W.Done n) e = done-case OfForm 0 refl
-      go true (W.NoForm q) e = absurd (omega (arith, ap (λ (v : F.Values). v .number) e))
-      go true (W.Refused r) e = absurd (omega (arith, ap (λ (v : F.Values). v .size) e))
-      go false (W.Done n) e = absurd (omega (arith, ap (λ (v : F.Values). v .number) e))
-      go false (W.NoForm q) e = absurd (omega (arith, ap (λ (v : F.Values). v .number) e))
-      go false (W.Refused r) e = refused-case OfForm 12 (omega arith) (omega arith) (inr (inl refl))
-
-estimate-case : (p : F.Plan) → Settled p → (a : Estimates.Estimate) → F.Estimated p (F.estimate a)
-    → Case (estimateAccepted a) (estimateNone a) OfEstimate (F.estimate a .number)
-estimate-case (F.refused k l) h (L.Length n) e = absurd (omega (arith, ap (λ (v : F.Values). v .number) e))
-estimate-case (F.refused k l) h (L.NoForm q) e = absurd (omega (arith, ap (λ (v : F.Values). v .number) e))
-estimate-case (F.refused k l) h (L.Refused r) e =
-    let z : r .number ≡ k = ap (λ (v : F.Values). v .number) e in
-    refused-case OfEstimate (r .number) (omega arith) (omega arith) (inl (omega arith, omega arith))
-estimate-case (F.noForm f) h (L.Length n) e = absurd (omega (arith, ap (λ (v : F.Values). v .number) e))
-estimate-case (F.noForm f) h (L.NoForm q) e = none-case OfEstimate 13 refl (inr refl)
-estimate-case (F.noForm f) h (L.Refused r) e = absurd (omega (arith, ap (λ (v : F.Values). v .a) e))
-estimate-case (F.written t) h (L.Length n) e = done-case OfEstimate 0 refl
-estimate-case (F.written t) h (L.NoForm q) e = absurd (omega (arith, ap (λ (v : F.Values). v .number) (e .gives)))
-estimate-case (F.written t) h (L.Refused r) e = absurd (omega (arith, ap (λ (v : F.Values). v .size) (e .gives), e .least))
-
-module _ (b buf : List ℕ) (a : Forms.Written) (e : F.values a ≡ F.answer (F.plan b) buf) where
-  pub form-told : Told (formAccepted a) OfForm (F.answer (F.plan b) buf .number)
-  form-told = form-case buf (F.plan b) (settled b) a e .0
-
-  pub form-thirteen : (F.answer (F.plan b) buf .number ≡ 13) ↔ (formNone a ≡ true)
-  form-thirteen = form-case buf (F.plan b) (settled b) a e .1
-
-module _ (b : List ℕ) (a : Estimates.Estimate) (e : F.Estimated (F.plan b) (F.estimate a)) where
-  pub estimate-told : Told (estimateAccepted a) OfEstimate (F.estimate a .number)
-  estimate-told = estimate-case (F.plan b) (settled b) a e .0
-
-  pub estimate-thirteen : (F.estimate a .number ≡ 13) ↔ (estimateNone a ≡ true)
-  estimate-thirteen = estimate-case (F.plan b) (settled b) a e .1
-
--- ---- Answers with the same values are the same, where both are accepted or both refused.
-read-apart : (a u : ReadAnswer) → readAccepted a ≡ readAccepted u → readValues a ≡ readValues u → a ≡ u
-read-apart (Accepted n) (Accepted m) t e = ap Accepted (ap (λ (v : ReadValues). v .goals) e)
-read-apart (Accepted n) (Refused r) t e = absurd (true≢false t)
-read-apart (Refused r) (Accepted n) t e = absurd (false≢true t)
-read-apart (Refused r) (Refused s) t e = ap Refused (refusal-is r s (ap (λ (v : ReadValues). v .number) e) (ap (λ (v : ReadValues). v .place) e))
-
-text-apart : (a u : TextAnswer) → textAccepted a ≡ textAccepted u → textValues a ≡ textValues u → a ≡ u
-text-apart (At s) (At r) t e = ap₂ (λ (p n : ℕ). At (record { place = p; size = n })) (ap (λ (v : TextValues). v .start) e) (ap (λ (v : TextValues). v .size) e)
-text-apart (At s) (NoText r) t e = absurd (true≢false t)
-text-apart (NoText r) (At s) t e = absurd (false≢true t)
-text-apart (NoText r) (NoText s) t e = ap NoText (refusal-is r s (ap (λ (v : TextValues). v .number) e) (ap (λ (v : TextValues). v .place) e))
-
-check-apart : (a u : CheckAnswer) → checkAccepted a ≡ checkAccepted u → checkValues a ≡ checkValues u → a ≡ u
-check-apart (Verdict x) (Verdict y) t e = ap Verdict (go x y e)
-  where
-    go : (x y : Verdicts.Verdict) → saying (verdictOf x) ≡ saying (verdictOf y) → x ≡ y
-    go Same Same e = refl
-    go Same (Differs p) e = absurd (omega (arith, ap (λ (v : CheckValues). v .verdict) e))
-    go (Differs p) Same e = absurd (omega (arith, ap (λ (v : CheckValues). v .verdict) e))
-    go (Differs p) (Differs q) e = ap₂ (λ (i j : ℕ). Differs (record { i = i; j = j })) (ap (λ (v : CheckValues). v .i) e) (ap (λ (v : CheckValues). v .j) e)
-check-apart (Verdict x) (Rejected r) t e = absurd (true≢false t)
-check-apart (Rejected r) (Verdict x) t e = absurd (false≢true t)
-check-apart (Rejected r) (Rejected s) t e = ap Rejected (refusal-is r s (ap (λ (v : CheckValues). v .number) e) (ap (λ (v : CheckValues). v .place) e))
-
-mel-apart : (a u : Mels.Written) → melAccepted a ≡ melAccepted u → M.values a ≡ M.values u → a ≡ u
-unfolding M.values
-mel-apart (T.Done n) (T.Done m) t e = ap T.Done (ap (λ (v : M.Values). v .size) e)
-mel-apart (T.Done n) (T.Refused r) t e = absurd (true≢false t)
-mel-apart (T.Refused r) (T.Done n) t e = absurd (false≢true t)
-mel-apart (T.Refused r) (T.Refused s) t e = ap T.Refused (refusal-is r s (ap (λ (v : M.Values). v .number) e) (ap (λ (v : M.Values). v .place) e))
-
-form-apart : (a u : Forms.Written) → formAccepted a ≡ formAccepted u → formNone a ≡ formNone u → F.values a ≡ F.values u → a ≡ u
-form-apart (W.Done n) (W.Done m) t s e = ap W.Done (ap (λ (v : F.Values). v .size) e)
-form-apart (W.Done n) (W.NoForm q) t s e = absurd (true≢false t)
-form-apart (W.Done n) (W.Refused r) t s e = absurd (true≢false t)
-form-apart (W.NoForm q) (W.Done n) t s e = absurd (false≢true t)
-form-apart (W.NoForm p) (W.NoForm q) t s e =
-    ap₂ (λ (f g : ℕ × ℕ). W.NoForm (goals f g)) (ap (λ (v : F.Values). (v .a, v .b)) e) (ap (λ (v : F.Values). (v .c, v .d)) e)
-  where
-    goals : ℕ × ℕ → ℕ × ℕ → Goals
-    goals f g = record { a = f .0; b = f .1; c = g .0; d = g .1 }
-form-apart (W.NoForm q) (W.Refused r) t s e = absurd (true≢false s)
-form-apart (W.Refused r) (W.Done n) t s e = absurd (false≢true t)
-form-apart (W.Refused r) (W.NoForm q) t s e = absurd (false≢true s)
-form-apart (W.Refused r) (W.Refused s) t z e = ap W.Refused (refusal-is r s (ap (λ (v : F.Values). v .number) e) (ap (λ (v : F.Values). v .place) e))
-
--- ---- So the values that an operation promises are those of one answer alone.
-module _ (b : List ℕ) where
-  pub read-one : (a u : ReadAnswer) → readValues a ≡ read b → readValues u ≡ read b → a ≡ u
-  read-one a u e f = read-apart a u (alike _ _ OfReading _ (read-told b a e) (read-told b u f)) (e ∙ sym f)
-
-  pub text-one : (g : ℕ) (a u : TextAnswer) → textValues a ≡ goalText b g → textValues u ≡ goalText b g → a ≡ u
-  text-one g a u e f = text-apart a u (alike _ _ OfText _ (text-told b g a e) (text-told b g u f)) (e ∙ sym f)
-
-  pub check-one : (t : List ℕ) (a u : CheckAnswer) → checkValues a ≡ check b t → checkValues u ≡ check b t → a ≡ u
-  check-one t a u e f = check-apart a u (alike _ _ OfCheck _ (check-told b t a e) (check-told b t u f)) (e ∙ sym f)
-
-  pub mel-one : (buf : List ℕ) (a u : Mels.Written) → M.values a ≡ melAnswer b buf → M.values u ≡ melAnswer b buf → a ≡ u
-  mel-one buf a u e f = mel-apart a u (alike _ _ OfMel _ (mel-told b buf a e) (mel-told b buf u f)) (e ∙ sym f)
-
-  pub form-one : (buf : List ℕ) (a u : Forms.Written) → F.values a ≡ F.answer (F.plan b) buf → F.values u ≡ F.answer (F.plan b) buf → a ≡ u
-  form-one buf a u e f =
-      form-apart a u (alike _ _ OfForm _ (form-told b buf a e) (form-told b buf u f))
-      (same (formNone a) (formNone u) _ (form-thirteen b buf a e) (form-thirteen b buf u f)) (e ∙ sym f)
-    where
-      same : (t u : Bool) (k : ℕ) → ((k ≡ 13) ↔ (t ≡ true)) → ((k ≡ 13) ↔ (u ≡ true)) → t ≡ u
-      same true u k h i = sym (i .0 (h .1 refl))
-      same false true k h i = h .0 (i .1 refl)
-      same false false k h i = refl
+pub one-answer : OneAnswer
+one-answer = record { of-read = read-one; of-text = text-one; of-check = check-one; of-form = form-one; of-mel = mel-one }

@@ -1,58 +1,20 @@
--- What the number of an answer's values tells: which case the answer is. An accepted one has 0, a refused one a number of its operation's refusals.
+-- What an answer tells: the numbers with which each operation refuses, and that one answer has the outcome promised.
 use mathlib.Core.Path.{_≡_}
-use mathlib.Core.Bool.{Bool, true, false}
+use mathlib.Core.List.{List}
 use mathlib.Core.Logic.{_⊎_, _↔_}
+use mathlib.Core.Option.{some}
 use Prim.Native.Nat.{ℕ, _≤_}
-use Rattle.form.specs.declared.Written as Forms
-use Rattle.form.specs.declared.Written.the-variants as W
-use Rattle.form.specs.declared.Estimate as Estimates
-use Rattle.form.specs.declared.Estimate.the-variants as L
-use Rattle.mel.specs.declared.Written as Mels
-use Rattle.mel.specs.declared.Written.the-variants as M
+use Rattle.record_rules.specs.Outcome.{Outcome, refused, values, Accepted}
+use Rattle.expression.specs.Search.{Four}
+use Rattle.expression_grammar.specs.Check.{same}
+use Rattle.form.specs.Form as F
+use Rattle.form.specs.declared.FormAnswer.{FormAnswer}
+use Rattle.mel.specs.Annotation as M
+use Rattle.mel.specs.declared.MelAnswer.{MelAnswer}
 use Rattle.annotator.specs.declared.ReadAnswer.{ReadAnswer}
-use Rattle.annotator.specs.declared.ReadAnswer.the-variants.{Accepted, Refused}
 use Rattle.annotator.specs.declared.TextAnswer.{TextAnswer}
-use Rattle.annotator.specs.declared.TextAnswer.the-variants.{At, NoText}
 use Rattle.annotator.specs.declared.CheckAnswer.{CheckAnswer}
-use Rattle.annotator.specs.declared.CheckAnswer.the-variants.{Verdict, Rejected}
-
--- ---- Accepted, of each type of answer.
-abbrev pub readAccepted : ReadAnswer → Bool
-readAccepted (Accepted n) = true
-readAccepted (Refused r) = false
-
-abbrev pub textAccepted : TextAnswer → Bool
-textAccepted (At s) = true
-textAccepted (NoText r) = false
-
-abbrev pub checkAccepted : CheckAnswer → Bool
-checkAccepted (Verdict v) = true
-checkAccepted (Rejected r) = false
-
-abbrev pub formAccepted : Forms.Written → Bool
-formAccepted (W.Done n) = true
-formAccepted (W.NoForm q) = false
-formAccepted (W.Refused r) = false
-
-abbrev pub estimateAccepted : Estimates.Estimate → Bool
-estimateAccepted (L.Length n) = true
-estimateAccepted (L.NoForm q) = false
-estimateAccepted (L.Refused r) = false
-
-abbrev pub melAccepted : Mels.Written → Bool
-melAccepted (M.Done n) = true
-melAccepted (M.Refused r) = false
-
--- "no form"
-abbrev pub formNone : Forms.Written → Bool
-formNone (W.Done n) = false
-formNone (W.NoForm q) = true
-formNone (W.Refused r) = false
-
-abbrev pub estimateNone : Estimates.Estimate → Bool
-estimateNone (L.Length n) = false
-estimateNone (L.NoForm q) = true
-estimateNone (L.Refused r) = false
+use Rattle.annotator.specs.Answers.{read, readOutcome, goalText, textOutcome, noSpan, check, checkOutcome}
 
 -- ---- 01, "What each operation turns down": the refusals of reading, which starts every operation, and those of its own.
 abbrev pub OfReading : ℕ → Type 0
@@ -73,7 +35,28 @@ OfEstimate k = OfReading k ⊎ (k ≡ 13)
 abbrev pub OfMel : ℕ → Type 0
 OfMel k = OfReading k ⊎ (k ≡ 12)
 
--- The number k of an answer: 0 exactly if it is accepted, and else a refusal of its operation.
-pub record Told (accepted : Bool) (Refuses : ℕ → Type 0) (k : ℕ) : Type 0 where
-  pub number-zero : (k ≡ 0) ↔ (accepted ≡ true)
-  pub number-refuses : accepted ≡ false → Refuses k
+pub record Refuses (b : List ℕ) : Type 0 where
+  pub of-read : (k p : ℕ) → read b ≡ refused k p → OfReading k
+  pub of-text : (g k p : ℕ) → goalText b g ≡ refused k p → OfText k
+  pub of-check : (t : List ℕ) (k p : ℕ) → check b t ≡ refused k p → OfCheck k
+  pub of-form : (buf : List ℕ) (k p : ℕ) → F.formAnswer b buf ≡ refused k p → OfForm k
+  pub of-estimate : (o : Outcome ℕ) (k p : ℕ) → F.Estimated (F.formText b) o → o ≡ refused k p → OfEstimate k
+  pub of-mel : (buf : List ℕ) (k p : ℕ) → M.melAnswer b buf ≡ refused k p → OfMel k
+
+-- ---- None of these is 0: an answer's number is 0 exactly if it is accepted. 13 is answered exactly with its four goals.
+pub record Numbers (b : List ℕ) : Type 0 where
+  pub of-read : (values 0 (read b) .number ≡ 0) ↔ Accepted (read b)
+  pub of-text : (g : ℕ) → (values noSpan (goalText b g) .number ≡ 0) ↔ Accepted (goalText b g)
+  pub of-check : (t : List ℕ) → (values same (check b t) .number ≡ 0) ↔ Accepted (check b t)
+  pub of-form : (buf : List ℕ) → (values 0 (F.formAnswer b buf) .number ≡ 0) ↔ Accepted (F.formAnswer b buf)
+  pub of-estimate : (o : Outcome ℕ) → F.Estimated (F.formText b) o → (values 0 o .number ≡ 0) ↔ Accepted o
+  pub of-mel : (buf : List ℕ) → (values 0 (M.melAnswer b buf) .number ≡ 0) ↔ Accepted (M.melAnswer b buf)
+  pub of-thirteen : (buf : List ℕ) → (F.formAnswer b buf ≡ refused 13 0) ↔ ((q : Four) × (F.shown b ≡ some q))
+
+-- ---- One answer has an outcome.
+pub record OneAnswer : Type 0 where
+  pub of-read : (a c : ReadAnswer) → readOutcome a ≡ readOutcome c → a ≡ c
+  pub of-text : (a c : TextAnswer) → textOutcome a ≡ textOutcome c → a ≡ c
+  pub of-check : (a c : CheckAnswer) → checkOutcome a ≡ checkOutcome c → a ≡ c
+  pub of-form : (a c : FormAnswer) → F.outcome a ≡ F.outcome c → F.goals a ≡ F.goals c → a ≡ c
+  pub of-mel : (a c : MelAnswer) → M.outcome a ≡ M.outcome c → a ≡ c

@@ -6,13 +6,14 @@ use mathlib.Core.Logic.{inl, inr, ⊎-elim}
 use Prim.Native.Nat.{ℕ, zero, suc, _+_, _*_, _≤_, _<_}
 use native.Mathlib.Omega.{arith}
 use native.Mathlib.Nat.{eq-or-lt-of-le}
-use lib.Dec.{eqb, ltb}
+use lib.Dec.{eqb}
 use lib.ListN.{length, length-append}
 use borrow.Author.Tests.{eq-eqb, ne-eqb}
-use Rattle.expression.specs.Expr.{Expr, goal, join, Members, one, more, times, timesM, Once, UsesOnce}
-use Rattle.expression.specs.Text.{number, mark, inner, run, text}
+use Rattle.expression.specs.Expr.{Expr, goal, join, Members, one, more, times, timesM, UsesOnce}
+use Rattle.expression.specs.Text.{mark, inner, run, text}
 use Rattle.expression.proofs.Fits.{In, InM}
-use Rattle.logic.proofs.Bools.{by-test}
+use Rattle.buffer.specs.Decimal.{decimal, decimalTo}
+use Rattle.buffer.proofs.Decimal.{decimal-length}
 use Rattle.expression.proofs.Uses.{in-range, uses-in}
 
 -- what the goals of e weigh together
@@ -37,7 +38,7 @@ abbrev mutual
 
 -- the bytes of a goal's number and one more: its mark, or none for the first
 abbrev wide : ℕ → ℕ
-wide g = suc (length (number g))
+wide g = suc (length (decimal g))
 
 mutual
   inner-length : (e : Expr) → suc (length (inner e)) ≡ weigh wide e + 2 * joins e
@@ -135,34 +136,19 @@ module _ (f : ℕ → ℕ) where
   total-mono (suc m) n h =
       ⊎-elim (λ e. omega (arith, ap (total f) e)) (λ l. omega (arith, total-mono m n (omega arith))) (eq-or-lt-of-le h)
 
-pub number-length : (g : ℕ) → length (number g) ≤ 2
-number-length g = by-test (λ l. length l ≤ 2) (ltb g 10) (λ t. omega arith) (λ t. omega arith)
-
--- ---- any expression over goals below m that uses none twice
-mutual
-  wide-le : (e : Expr) → weigh wide e ≤ 3 * weigh (λ _. 1) e
-  wide-le (goal g) = omega (arith, number-length g)
-  wide-le (join k e ms) = omega (arith, wide-le e, wideM-le ms)
-
-  wideM-le : (ms : Members) → weighM wide ms ≤ 3 * weighM (λ _. 1) ms
-  wideM-le (one e) = wide-le e
-  wideM-le (more e ms) = omega (arith, wide-le e, wideM-le ms)
-
-sum-le : (t : ℕ → ℕ) → ((i : ℕ) → t i ≤ 1) → (m : ℕ) → sum m (λ i. t i * 1) ≤ m
-sum-le t h zero = omega arith
-sum-le t h (suc m) = omega (arith, sum-le t h m, h m)
-
-pub inner-fits : (e : Expr) (m : ℕ) → Once e → ((i : ℕ) → In i e → i < m) → length (inner e) < 5 * m
-inner-fits e m u l = omega (arith, inner-length e, joins-lt e, wide-le e, weigh-sum (λ _. 1) e m l, sum-le (times e) u m)
+-- 9 numbers of one digit and 23 of two, and a byte for each
+widest : total wide 32 ≡ 87
+unfolding decimal decimalTo
+widest = refl
 
 -- The longest text of up to 32 goals has 146 bytes.
 pub text-fits : (n : ℕ) (e : Expr) → UsesOnce n e → n ≤ 32 → length (text e) ≤ 146
-text-fits n (goal g) u h = omega (arith, number-length g)
+text-fits n (goal g) u h = let r = uses-in n (goal g) u g refl in omega (arith, decimal-length 1 g (omega (arith, r .1)))
 text-fits n (join k e ms) u h =
-    let w : total wide 32 ≡ 87 = refl in
     let c : total (λ _. 1) 32 ≡ 32 = refl in
     omega (
       arith,
+      widest,
       text-length k e ms,
       weigh-uses wide n (join k e ms) u,
       weigh-uses (λ _. 1) n (join k e ms) u,

@@ -7,10 +7,9 @@ use native.Mathlib.Omega.{arith}
 use native.Mathlib.Decide.{decLe}
 use lib.Dec.{eqb}
 use borrow.Author.Tests.{eqb-true, eq-eqb, leb-true, le-leb}
-use Rattle.logic.proofs.Bools.{is-false}
 use Rattle.expression.specs.Expr.{Expr, goal, join, Members, one, more, times, timesM, stands, standsM, before, beforeM}
 use Rattle.expression.proofs.Fits.{In, InM, Cross, Fits, FitsM}
-use Rattle.logic.proofs.Bools.{test, or-true as or-cases, and-true as and-both}
+use Rattle.logic.proofs.Bools.{test, is-false, cond-le, or-true as or-cases, and-true as and-both}
 
 -- ---- to stand in e is to stand there once or more
 mutual
@@ -116,10 +115,6 @@ apart-once a b ha hb n = go (decLe 1 a) (decLe 1 b)
     go (yes p) (yes q) = absurd (n p q)
     go (yes p) (no q) = omega arith
     go (no p) q = omega arith
-
-pub cond-le : (b : Bool) → cond b 1 0 ≤ 1
-cond-le true = omega arith
-cond-le false = omega arith
 
 module _ (R : ℕ → ℕ → Bool) where
   disjoint : (k : Bool) (e : Expr) (ms : Members) → Cross R k (λ i. In i e) (λ i. InM i ms) → (i : ℕ) → In i e → InM i ms → ⊥

@@ -15,7 +15,8 @@ use native.Mathlib.Omega.{arith}
 use lib.Dec.{eqb, ltb}
 use lib.ListN.{length}
 use borrow.Author.Tests.{eq-eqb, eqb-true, lt-ltb, ltb-true}
-use Rattle.logic.proofs.Bools.{iff, is-false}
+use Rattle.logic.proofs.Bools.{iff, is-false, and-true, cond-le}
+use Rattle.buffer.specs.Decimal.{decimal, decimalTo}
 use Rattle.expression.specs.Expr.{Expr, times, stands, before, Once, Induces, UsesOnce, UsesFour, Goals, Matches, House, HouseForm, N, NoN, Order}
 use Rattle.expression.specs.Induced.{Holds, Innermost, Before}
 use Rattle.expression.specs.Form.{form}
@@ -24,10 +25,9 @@ use Rattle.expression.specs.Search.{Four, FirstN, firstN}
 use Rattle.expression.specs.Restore.{restore}
 use Rattle.expression.specs.Arrange.{Strict, formAny}
 use Rattle.expression.proofs.NoN.{no-n}
-use Rattle.logic.proofs.Bools.{and-true}
 use Rattle.expression.proofs.Exists.{form-on}
 use Rattle.expression.proofs.Split.{form-eq}
-use Rattle.expression.proofs.Spec.{times-in, stands-in, in-stands, before-fits, cond-le}
+use Rattle.expression.proofs.Spec.{times-in, stands-in, in-stands, before-fits}
 use Rattle.expression.proofs.Induced
 use Rattle.expression.proofs.Arrange
 use Rattle.expression.proofs.Length
@@ -114,6 +114,7 @@ text-fits n e = Length.text-fits n e
 
 -- and that of a house form may have as many: each goal in turn comes after all before it, or beside all before it.
 pub text-longest : (R : ℕ → ℕ → Bool) × (e : Expr) × HouseForm R 32 e × (length (text e) ≡ 146)
+unfolding decimal decimalTo
 text-longest = (R, form R 32, form-is R 32 order free (omega arith), refl)
   where
     R : ℕ → ℕ → Bool

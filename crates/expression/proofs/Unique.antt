@@ -1,6 +1,6 @@
 -- T3: two house forms over the same goals that induce the same order are equal.
 use mathlib.Core.Path.{_≡_, refl, sym, ap, _∙_, subst}
-use mathlib.Core.Bool.{Bool, true, false, not, true≢false}
+use mathlib.Core.Bool.{Bool, true, false, not, true≢false, not-eq-not}
 use mathlib.Core.Logic.{_⊎_, inl, inr, _↔_}
 use Prim.Native.Nat.{ℕ, _<_}
 use native.Mathlib.Omega.{arith}
@@ -73,12 +73,6 @@ module _ (R : ℕ → ℕ → Bool) where
           back p (inr q) = q
 
   -- a sequence is no group
-  same-kind : (k h : Bool) → (h ≡ not k → ⊥) → k ≡ h
-  same-kind true true n = refl
-  same-kind true false n = absurd (n refl)
-  same-kind false true n = absurd (n refl)
-  same-kind false false n = refl
-
   one-kind : (k h : Bool) (a : Expr) (cs : Members) (b : Expr) (bs : Members) → Fits R (join k a cs) → Fits R (join h b bs)
       → Same (λ i. In i (join k a cs)) (λ i. In i (join h b bs)) → h ≡ not k → ⊥
   one-kind k h a cs b bs f g s n =
@@ -105,7 +99,7 @@ module _ (R : ℕ → ℕ → Bool) where
     unique (goal g) (join h b bs) f f′ w w′ s = absurd (lone g b bs (f′ .2) (λ i. s i .1))
     unique (join k a cs) (goal h) f f′ w w′ s = absurd (lone h a cs (f .2) (λ i. s i .0))
     unique (join k a cs) (join h b bs) f f′ w w′ s =
-        let q : k ≡ h = same-kind k h (one-kind k h a cs b bs f f′ s) in
+        let q : k ≡ h = sym (not-eq-not {a = h} {b = k} .0 (one-kind k h a cs b bs f f′ s)) in
         let f″ : Fits R (join k b bs) = subst (λ (l : Bool). Fits R (join l b bs)) (sym q) f′ in
         let w″ : House (join k b bs) = subst (λ (l : Bool). House (join l b bs)) (sym q) w′ in
         let p = unique a b (f .0) (f″ .0) (w .0) (w″ .0) (heads k a cs b bs (f .2) (f″ .2) s (f .0) (w .1) (w .2) (f″ .0) (w″ .1) (w″ .2)) in

@@ -8,9 +8,9 @@ use lib.Dec.{leb}
 use borrow.Author.Tests.{leb-true, le-leb}
 use Rattle.expression.specs.Expr.{Expr, times, Once, UsesOnce, Goals, Matches, HouseForm}
 use Rattle.expression.proofs.Fits.{In, Fits}
-use Rattle.logic.proofs.Bools.{test, and-true}
+use Rattle.logic.proofs.Bools.{test, and-true, cond-le}
 use Rattle.expression.proofs.Exists.{Form, form-set}
-use Rattle.expression.proofs.Spec.{in-times, times-in, fits-once, fits-before, before-fits, cond-le}
+use Rattle.expression.proofs.Spec.{in-times, times-in, fits-once, fits-before, before-fits}
 
 -- ---- the numbers from 1 to n
 pub in-range : (n i : ℕ) → Goals n i → (leb 1 i && leb i n) ≡ true

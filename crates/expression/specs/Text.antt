@@ -1,22 +1,19 @@
 -- The text of an expression, as bytes (01, "House form").
 use mathlib.Core.Bool.{Bool, cond}
 use mathlib.Core.List.{List, [], _∷_, _++_}
-use Prim.Native.Nat.{ℕ, _+_, _/_, _%_}
-use lib.Dec.{ltb}
+use Prim.Native.Nat.{ℕ}
+use Rattle.buffer.specs.Decimal.{decimal}
 use Rattle.expression.specs.Expr.{Expr, goal, join, Members, one, more}
-
--- 01: "Goals are decimal numbers without leading zero;" for numbers below 100.
-abbrev pub number : ℕ → List ℕ
-number n = cond (ltb n 10) ((48 + n) ∷ []) ((48 + n / 10) ∷ (48 + n % 10) ∷ [])
 
 -- "`,` joins a sequence, `&` a group;" bytes 44 and 38.
 abbrev pub mark : Bool → ℕ
 mark k = cond k 44 38
 
 abbrev mutual
-  -- "every inner sequence or group has exactly one pair of parentheses," bytes 40 and 41: the text of a member.
+  -- "Goals are decimal numbers without leading zero;" "every inner sequence or group has exactly one pair of parentheses," bytes 40 and 41: the text of
+  -- a member.
   pub inner : Expr → List ℕ
-  inner (goal g) = number g
+  inner (goal g) = decimal g
   inner (join k e ms) = 40 ∷ (inner e ++ (mark k ∷ run k ms)) ++ (41 ∷ [])
 
   -- The texts of members, a mark between each two.
@@ -26,5 +23,5 @@ abbrev mutual
 
 -- "the outermost none; no spaces."
 abbrev pub text : Expr → List ℕ
-text (goal g) = number g
+text (goal g) = decimal g
 text (join k e ms) = run k (more e ms)

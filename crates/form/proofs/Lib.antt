@@ -1,4 +1,4 @@
 pub mod Rows
-pub mod Plans
+pub mod Outcomes
 pub mod Orders
 pub mod Theorems

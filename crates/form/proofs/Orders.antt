@@ -4,9 +4,9 @@ use mathlib.Core.Bool.{Bool}
 use mathlib.Core.List.{List}
 use mathlib.Core.Option.{Option, none, some}
 use Prim.Native.Nat.{ℕ, _≤_}
-use Rattle.reading.specs.declared.Reading.the-variants.{Fine}
-use Rattle.reading.specs.Reading.{reading}
-use Rattle.fields.specs.Fields.{goalCount}
+use Rattle.record_rules.specs.declared.Reading.the-variants.{Fine}
+use Rattle.record_rules.specs.Reading.{reading}
+use Rattle.record_fields.specs.Fields.{goalCount}
 use Rattle.record.proofs.WellFormed.{fine-well-formed}
 use Rattle.graph.specs.Graph.{ahead, rowsOf, Within}
 use Rattle.graph.specs.declared.Graph.{Graph}
@@ -20,8 +20,8 @@ use Rattle.expression.proofs.Search.{not-found, none-found, found-first, first-
 use Rattle.expression.proofs.Theorems.{form-any, form-is, form-unique, order-strict}
 use Rattle.order.specs.Order.{before, order}
 use Rattle.order.proofs.Theorems.{before-order}
-use Rattle.form.specs.Form.{settled, plan}
-use Rattle.form.proofs.Plans.{plan-fine}
+use Rattle.form.specs.Form.{orThirteen, formText, shown}
+use Rattle.form.proofs.Outcomes.{thirteen-some, form-fine, shown-fine}
 
 module _ (R Q : ℕ → ℕ → Bool) (n : ℕ) (agree : (i j : ℕ) → Goals n i → Goals n j → R i j ≡ Q i j) where
   n-same : {a b c d : ℕ} → Goals n a → Goals n b → Goals n c → Goals n d → N R a b c d → N Q a b c d
@@ -61,19 +61,26 @@ module _ (R Q : ℕ → ℕ → Bool) (n : ℕ) (agree : (i j : ℕ) → Goals n
   pub strict-rows : Strict R (Goals n)
   strict-rows = strict-same R Q n agree (order-strict Q (Goals n) o)
 
-  pub settled-same : settled (firstN R n) (text (formAny R n)) ≡ settled (firstN Q n) (text (form Q n))
-  settled-same = go (firstN R n) refl
+  free-same : firstN R n ≡ none → NoN Q (Goals n)
+  free-same e = let free = not-found R n e in λ a b c d ga gb gc gd x. free a b c d ga gb gc gd (n-same Q R n back ga gb gc gd x)
+
+  pub first-same : firstN R n ≡ firstN Q n
+  first-same = go (firstN R n) refl
     where
-      go : (x : Option Four) → firstN R n ≡ x → settled (firstN R n) (text (formAny R n)) ≡ settled (firstN Q n) (text (form Q n))
-      go none e =
-          let free = not-found R n e in
-          let free′ : NoN Q (Goals n) = λ a b c d ga gb gc gd x. free a b c d ga gb gc gd (n-same Q R n back ga gb gc gd x) in
-          let same = form-unique Q n (formAny R n) (form Q n) (house-same R Q n agree (formAny R n) (form-any R n strict-rows free from)) (form-is Q n o free′ from) in
-          ap₂ (λ (y : Option Four) (z : Expr). settled y (text z)) (e ∙ sym (none-found Q n free′)) same
+      go : (x : Option Four) → firstN R n ≡ x → firstN R n ≡ firstN Q n
+      go none e = e ∙ sym (none-found Q n (free-same e))
       go (some q) e =
           let f = found-first R n q e in
-          let g = first-found Q n q (record { is = is-same R Q n agree q (f .is); first = λ r x. f .first r (is-same Q R n back r x) }) in
-          ap (λ (y : Option Four). settled y (text (formAny R n))) e ∙ sym (ap (λ (y : Option Four). settled y (text (form Q n))) g)
+          e ∙ sym (first-found Q n q (record { is = is-same R Q n agree q (f .is); first = λ r x. f .first r (is-same Q R n back r x) }))
+
+  pub text-same : orThirteen (firstN R n) (text (formAny R n)) ≡ orThirteen (firstN Q n) (text (form Q n))
+  text-same = go (firstN R n) refl
+    where
+      go : (x : Option Four) → firstN R n ≡ x → orThirteen (firstN R n) (text (formAny R n)) ≡ orThirteen (firstN Q n) (text (form Q n))
+      go none e =
+          ap₂ (λ (y : Option Four) (z : Expr). orThirteen y (text z)) first-same
+          (form-unique Q n (formAny R n) (form Q n) (house-same R Q n agree (formAny R n) (form-any R n strict-rows (not-found R n e) from)) (form-is Q n o (free-same e) from))
+      go (some q) e = thirteen-some (text (formAny R n)) q e ∙ sym (thirteen-some (text (form Q n)) q (sym first-same ∙ e))
 
 -- ---- the rows of a record's order
 module _ (b : List ℕ) (fine : reading b ≡ Fine) where
@@ -93,8 +100,14 @@ module _ (b : List ℕ) (fine : reading b ≡ Fine) where
         subst (λ (x : Graph). (1 ≤ x .n) × (x .n ≤ 32) × Strict (ahead (x .rows)) (Goals (x .n)) × Within 32 (x .n) (x .rows)) (sym e)
         (goals-from, goals-to, strict-rows (ahead (rowsOf 32 (goalCount b) (before b))) (before b) (goalCount b) rows-agree goals-from (before-order b), rows-within 32 (goalCount b) (before b) goals-to)
 
-    pub graph-plan : settled (firstN (ahead (g .rows)) (g .n)) (text (formAny (ahead (g .rows)) (g .n))) ≡ plan b
+    pub graph-text : orThirteen (firstN (ahead (g .rows)) (g .n)) (text (formAny (ahead (g .rows)) (g .n))) ≡ formText b
     unfolding order
-    graph-plan =
-        ap (λ (x : Graph). settled (firstN (ahead (x .rows)) (x .n)) (text (formAny (ahead (x .rows)) (x .n)))) e
-        ∙ settled-same (ahead (rowsOf 32 (goalCount b) (before b))) (before b) (goalCount b) rows-agree goals-from (before-order b) ∙ sym (plan-fine b fine)
+    graph-text =
+        ap (λ (x : Graph). orThirteen (firstN (ahead (x .rows)) (x .n)) (text (formAny (ahead (x .rows)) (x .n)))) e
+        ∙ text-same (ahead (rowsOf 32 (goalCount b) (before b))) (before b) (goalCount b) rows-agree goals-from (before-order b) ∙ sym (form-fine b fine)
+
+    pub graph-shown : firstN (ahead (g .rows)) (g .n) ≡ shown b
+    unfolding order
+    graph-shown =
+        ap (λ (x : Graph). firstN (ahead (x .rows)) (x .n)) e
+        ∙ first-same (ahead (rowsOf 32 (goalCount b) (before b))) (before b) (goalCount b) rows-agree goals-from (before-order b) ∙ sym (shown-fine b fine)

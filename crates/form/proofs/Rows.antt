@@ -10,7 +10,7 @@ use lib.ListN.{length}
 use lib.Pow.{pow-pos, pow-mono}
 use borrow.Author.Tests.{lt-ltb, ltb-true}
 use Rattle.sets.specs.Sets.{has, below}
-use Rattle.sets.proofs.Laws.{has-below}
+use Rattle.sets.proofs.Membership.{has-below}
 use Rattle.graph.specs.Graph.{ahead, transposed}
 use Rattle.graph.proofs.Rows.{transposed-says}
 use Rattle.expression.specs.Expr.{Goals}
@@ -21,8 +21,8 @@ use Rattle.expression.proofs.Search.{not-found}
 use Rattle.expression.proofs.Split.{form-eq}
 use Rattle.expression.proofs.Uses.{house-form}
 use Rattle.expression.proofs.Theorems.{form-any, text-fits}
-use Rattle.split.specs.Split.{Has, Ordered, formOf, formText}
-use Rattle.split.proofs.Forms.{form-of}
+use Rattle.form_split.specs.Split.{Has, Ordered, formOf, formText}
+use Rattle.form_split.proofs.Forms.{form-of}
 
 module _ (rows prior : List ℕ) (n all : ℕ) (from : 1 ≤ n) (to : n ≤ 32) (strict : Strict (ahead rows) (Goals n)) (free : firstN (ahead rows) n ≡ none)
     (turned : prior ≡ transposed 32 n rows) (full : all ≡ below n) where

@@ -6,7 +6,7 @@
 -- specs/Demand.antt.
 pub use Rattle.order.proofs.Theorems.{before-is, before-order, before-closed}
 pub use Rattle.expression.proofs.Theorems.{first-n-is, no-n-is}
-use mathlib.Core.Path.{_≡_, refl, sym, ap, _∙_}
+use mathlib.Core.Path.{_≡_, refl, sym, ap, _∙_, subst}
 use mathlib.Core.Bool.{Bool, true, false, _||_, cond, true≢false}
 use mathlib.Core.List.{List, _++_}
 use mathlib.Core.Logic.{inl, inr, _↔_}
@@ -14,15 +14,14 @@ use mathlib.Core.Option.{Option, none, some}
 use Prim.Native.Nat.{ℕ, _≤_}
 use native.Mathlib.Omega.{arith}
 use lib.Dec.{eqb}
-use lib.ListN.{length, drop}
+use lib.ListN.{length, drop, replicate, length-replicate}
 use borrow.Author.Tests.{eqb-true}
-use Rattle.logic.proofs.Bools.{iff, is-false, or-elim}
-use Rattle.text.specs.Text.{pickText}
-use Rattle.text.specs.Lent.{fits, stored}
-use Rattle.text.proofs.Lent.{fits-le}
-use Rattle.fields.specs.Fields.{goalCount}
+use Rattle.logic.proofs.Bools.{iff, is-false, or-elim, cond-le}
+use Rattle.buffer.specs.Lent.{fits, stored}
+use Rattle.buffer.proofs.Lent.{fits-le}
+use Rattle.record_fields.specs.Fields.{goalCount}
 use Rattle.record.specs.WellFormed.{WellFormed}
-use Rattle.record.proofs.WellFormed.{well-formed-fine}
+use Rattle.record.proofs.WellFormed.{well-formed-fine, fine-well-formed}
 use Rattle.order.specs.Order as O
 use Rattle.order.proofs.Theorems as O′
 use Rattle.expression.specs.Expr as E
@@ -32,31 +31,30 @@ use Rattle.expression.specs.Search.{Four, IsN, firstN}
 use Rattle.expression.specs.Form.{form}
 use Rattle.expression.specs.Text.{text}
 use Rattle.expression.proofs.Search.{found-first, not-found}
-use Rattle.expression.proofs.Spec.{stands-in, in-times, cond-le}
+use Rattle.expression.proofs.Spec.{stands-in, in-times}
 use Rattle.expression.proofs.Theorems as E′
 use Rattle.expression.proofs.Theorems.{uses-once, order-no-n, no-four, n-distinct, form-is, form-unique, text-fits}
-use Rattle.form.specs.Form.{Plan, noForm, written, settled, plan, Values, refusal, done, answer, filled}
+use Rattle.record_rules.specs.declared.Reading.{Reading}
+use Rattle.record_rules.specs.declared.Reading.the-variants.{Fine, Refused}
+use Rattle.record_rules.specs.Reading.{reading}
+use Rattle.record_rules.specs.Outcome.{Outcome, refused, accepted, onlyIf, sizeIn}
+use Rattle.record_rules.proofs.Outcomes.{told-apart, one-value, size-fits, size-short, buffer-short}
+use Rattle.form.specs.Form.{orThirteen, formText, formAnswer, Estimated}
 use Rattle.form.specs.Demand.{Expresses, FourGoals, OneOf, ExpressesFour, NoForm, HasForm, Demand}
-use Rattle.form.proofs.Plans.{plan-fine, settled-none, settled-some, none-answer, none-buffer, short-answer, short-buffer, fit-answer}
+use Rattle.form.proofs.Outcomes.{thirteen-none, thirteen-some, form-refused, form-fine, shown-fine, same-answer, same-buffer, estimated}
 
--- what is settled as "no form" is an N
-settled-found : (o : Option Four) (t : List ℕ) (q : Four) → settled o t ≡ noForm q → o ≡ some q
-settled-found none t q e = absurd (let z : _≡_ {A = ℕ} 0 1 = cc in omega arith)
-settled-found (some r) t q e = cc
-
--- and nothing else is answered 13: a text is written, or 12 answered
-settled-thirteen : (o : Option Four) (t buf : List ℕ) → answer (settled o t) buf .number ≡ 13 → (q : Four) × (settled o t ≡ noForm q)
-unfolding answer
-settled-thirteen none t buf e = absurd (by-room (fits t buf) e)
+-- 13 is answered for an N alone: else a text is written, or 12 answered
+only-thirteen : (o : Option Four) (t buf : List ℕ) → sizeIn (orThirteen o t) buf ≡ refused 13 0 → (q : Four) × (o ≡ some q)
+only-thirteen none t buf e = absurd (by-room (fits t buf) e)
   where
-    by-room : (x : Bool) → cond x (done (length t)) (refusal 12 (length t)) .number ≡ 13 → ⊥
-    by-room true e = omega arith
-    by-room false e = omega arith
-settled-thirteen (some q) t buf e = (q, refl)
+    by-room : (x : Bool) → onlyIf x 12 (length t) (accepted (length t)) ≡ refused 13 0 → ⊥
+    by-room true e = let z : _≡_ {A = ℕ} 0 1 = cc in omega arith
+    by-room false e = let z : _≡_ {A = ℕ} 12 13 = cc in omega arith
+only-thirteen (some q) t buf e = (q, refl)
 
 stored-fit : (t buf : List ℕ) → length t ≤ length buf → stored t buf ≡ t ++ drop (length t) buf
 unfolding stored
-stored-fit t buf h = ap (λ (x : Bool). pickText x (t ++ drop (length t) buf) buf) (fits-le t buf h)
+stored-fit t buf h = ap (λ (x : Bool). cond x (t ++ drop (length t) buf) buf) (fits-le t buf h)
 
 module _ (b : List ℕ) where
   abbrev R : ℕ → ℕ → Bool
@@ -156,77 +154,89 @@ module _ (b : List ℕ) where
           go false h u = absurd (omega (arith, in-times e i (stands-in e i s)))
 
   module _ (w : WellFormed b) where
-    -- the search settles the plan: its N, or the form's text
-    pub settles : plan b ≡ settled (firstN R n) (text (form R n))
-    settles = plan-fine b (well-formed-fine b w)
-
-    first-found : (q : Four) → plan b ≡ noForm q → firstN R n ≡ some q
-    first-found q e = settled-found (firstN R n) (text (form R n)) q (sym settles ∙ e)
+    -- the search settles the answer: its N, or the form's text
+    pub settles : formText b ≡ orThirteen (firstN R n) (text (form R n))
+    settles = form-fine b (well-formed-fine b w)
 
     -- where there is no N, the form is the house form of the record's order
     pub the-form : firstN R n ≡ none → HouseForm R n (form R n)
     the-form e = form-is R n (O′.before-order b) (not-found R n e) (w .goals-from)
 
     -- 13 is answered exactly if the search finds an N
-    pub found-thirteen : (buf : List ℕ) (q : Four) → firstN R n ≡ some q → answer (plan b) buf .number ≡ 13
-    found-thirteen buf q e = sym (ap (λ (v : Values). v .number) (none-answer (plan b) buf q (settles ∙ settled-some (text (form R n)) q e)))
+    pub found-thirteen : (buf : List ℕ) (q : Four) → firstN R n ≡ some q → formAnswer b buf ≡ refused 13 0
+    found-thirteen buf q e = same-answer buf (settles ∙ thirteen-some (text (form R n)) q e)
 
-    thirteen-planned : (buf : List ℕ) → answer (plan b) buf .number ≡ 13 → (q : Four) × (plan b ≡ noForm q)
-    thirteen-planned buf e =
-        let (q, h) = settled-thirteen (firstN R n) (text (form R n)) buf (sym (ap (λ (p : Plan). answer p buf .number) settles) ∙ e) in
-        (q, settles ∙ h)
+    pub thirteen-found : (buf : List ℕ) → formAnswer b buf ≡ refused 13 0 → (q : Four) × (firstN R n ≡ some q)
+    thirteen-found buf e = only-thirteen (firstN R n) (text (form R n)) buf (sym (same-answer buf settles) ∙ e)
 
-    exactly : (buf : List ℕ) → (answer (plan b) buf .number ≡ 13) ↔ ((e : Expr) → Expresses b e → ⊥)
+    exactly : (buf : List ℕ) → (formAnswer b buf ≡ refused 13 0) ↔ ((e : Expr) → Expresses b e → ⊥)
     exactly buf = (there, back (firstN R n) refl)
       where
-        there : answer (plan b) buf .number ≡ 13 → (e : Expr) → Expresses b e → ⊥
+        there : formAnswer b buf ≡ refused 13 0 → (e : Expr) → Expresses b e → ⊥
         there t e x =
-            let (q, h) = thirteen-planned buf t in
-            let (y, ga, gb, gc, gd) = found-first R n q (first-found q h) .is in
+            let (q, h) = thirteen-found buf t in
+            let (y, ga, gb, gc, gd) = found-first R n q h .is in
             order-no-n R n e (x .uses) (has-order e x) (q .a) (q .b) (q .c) (q .d) ga gb gc gd y
 
-        back : (o : Option Four) → firstN R n ≡ o → ((e : Expr) → Expresses b e → ⊥) → answer (plan b) buf .number ≡ 13
+        back : (o : Option Four) → firstN R n ≡ o → ((e : Expr) → Expresses b e → ⊥) → formAnswer b buf ≡ refused 13 0
         back none h f = let g = the-form h in absurd (f (form R n) (expresses (form R n) (g .uses) (g .order)))
         back (some q) h f = found-thirteen buf q h
 
-    -- the four goals of the plan are those that show it
-    pub no-form : (q : Four) → plan b ≡ noForm q → NoForm b q
+    -- the four goals of the search are those that show it
+    pub no-form : (q : Four) → firstN R n ≡ some q → NoForm b q
     no-form q h =
-        let f = found-first R n q (first-found q h) in
+        let f = found-first R n q h in
+        let x : formText b ≡ refused 13 0 = settles ∙ thirteen-some (text (form R n)) q h in
         record {
           shape = four-goals q (f .is);
           first = λ r x. f .first r (goals-four r x);
           alone = four-alone q (f .is .0);
-          answers = λ buf. (sym (none-answer (plan b) buf q h), sym (none-buffer (plan b) buf q h));
+          answers = λ buf. (same-answer buf x, same-buffer buf x);
+          shows = shown-fine b (well-formed-fine b w) ∙ h;
         }
 
-    has-form : firstN R n ≡ none → HasForm b (form R n)
-    unfolding filled
+    pub has-form : firstN R n ≡ none → HasForm b (form R n)
     has-form h =
         let f = the-form h in
         let t = text (form R n) in
-        let p : plan b ≡ written t = settles ∙ settled-none t h in
+        let x : formText b ≡ accepted t = settles ∙ thirteen-none t h in
         record {
           house = f .house;
           expresses = expresses (form R n) (f .uses) (f .order);
           only = λ e g x. form-unique R n e (form R n) (record { uses = x .uses; order = has-order e x; house = g }) f;
           short = text-fits n (form R n) (f .uses) (w .goals-to);
-          writes =
-              λ buf l. (
-                sym (fit-answer (plan b) buf t p (length t) refl l),
-                ap (λ (x : Plan). filled x buf) p ∙ stored-fit t buf l,
-              );
-          names = λ buf l. (sym (short-answer (plan b) buf t p (length t) refl l), sym (short-buffer (plan b) buf t p l));
+          writes = λ buf l. (same-answer buf x ∙ sym (size-fits t buf refl l), same-buffer buf x ∙ stored-fit t buf l);
+          names = λ buf l. (same-answer buf x ∙ sym (size-short t buf refl l), same-buffer buf x ∙ sym (buffer-short t buf l));
         }
 
     pub demand : Demand b
     demand =
         record {
           exactly = exactly;
-          without = λ buf t. let (q, h) = thirteen-planned buf t in (q, no-form q h);
+          without = λ buf t. let (q, h) = thirteen-found buf t in (q, no-form q h);
           otherwise = λ buf h. go buf h (firstN R n) refl;
         }
       where
-        go : (buf : List ℕ) → (answer (plan b) buf .number ≡ 13 → ⊥) → (o : Option Four) → firstN R n ≡ o → (e : Expr) × HasForm b e
+        go : (buf : List ℕ) → (formAnswer b buf ≡ refused 13 0 → ⊥) → (o : Option Four) → firstN R n ≡ o → (e : Expr) × HasForm b e
         go buf h none e = (form R n, has-form e)
         go buf h (some q) e = absurd (h (found-thirteen buf q e))
+
+  -- no form is longer than 146 bytes
+  pub form-short : (t : List ℕ) → formText b ≡ accepted t → length t ≤ 146
+  form-short t e = by-reading-of (reading b) refl
+    where
+      searched : WellFormed b → (o : Option Four) → firstN R n ≡ o → length t ≤ 146
+      searched w none h =
+          let x : text (form R n) ≡ t = one-value (sym (settles w ∙ thirteen-none (text (form R n)) h) ∙ e) in
+          subst (λ (l : List ℕ). length l ≤ 146) x (has-form w h .short)
+      searched w (some q) h = absurd (told-apart (sym (settles w ∙ thirteen-some (text (form R n)) q h) ∙ e))
+
+      by-reading-of : (s : Reading) → reading b ≡ s → length t ≤ 146
+      by-reading-of Fine q = searched (fine-well-formed b q) (firstN R n) refl
+      by-reading-of (Refused r) q = absurd (told-apart (sym (form-refused b r q) ∙ e))
+
+  -- what writing into 146 bytes answers is an estimate of the length
+  pub estimate : {o : Outcome ℕ} → o ≡ formAnswer b (replicate 146 0) → Estimated (formText b) o
+  estimate e =
+      let n = length-replicate {A = ℕ} 146 0 in
+      estimated (formText b) (replicate 146 0) e (omega arith) (λ t h. omega (arith, form-short t h))

@@ -2,15 +2,17 @@
 use mathlib.Core.Path.{_≡_}
 use mathlib.Core.List.{List, _++_}
 use mathlib.Core.Logic.{_⊎_, _↔_}
+use mathlib.Core.Option.{some}
 use Prim.Native.Nat.{ℕ, _≤_, _<_}
 use lib.ListN.{length, drop}
-use Rattle.fields.specs.Fields.{goalCount}
+use Rattle.record_fields.specs.Fields.{goalCount}
 use Rattle.order.specs.Order as O
 use Rattle.expression.specs.Expr.{Expr, UsesOnce, UsesFour, Goals, House}
 use Rattle.expression.specs.Induced as I
 use Rattle.expression.specs.Search.{Four, NotAfter}
 use Rattle.expression.specs.Text.{text}
-use Rattle.form.specs.Form.{plan, refusal, thirteen, done, answer, filled}
+use Rattle.record_rules.specs.Outcome.{refused, accepted}
+use Rattle.form.specs.Form.{formLimit, shown, formAnswer, formBuffer}
 
 -- 01: "It has the record's order if, for all goals i and j, it induces i before j exactly when the record has i before j."
 abbrev pub HasOrder : List ℕ → Expr → Type 0
@@ -45,23 +47,24 @@ pub record NoForm (b : List ℕ) (q : Four) : Type 0 where
   pub shape : FourGoals b q
   pub first : (r : Four) → FourGoals b r → NotAfter q r
   pub alone : (e : Expr) → ExpressesFour b q e → ⊥
-  pub answers : (buf : List ℕ) → (answer (plan b) buf ≡ thirteen q) × (filled (plan b) buf ≡ buf)
+  pub answers : (buf : List ℕ) → (formAnswer b buf ≡ refused 13 0) × (formBuffer b buf ≡ buf)
+  pub shows : shown b ≡ some q
 
 -- Otherwise: e is the house form of the record's order, and the only one. The call writes its text where the buffer holds it, and else names its length.
 pub record HasForm (b : List ℕ) (e : Expr) : Type 0 where
   pub house : House e
   pub expresses : Expresses b e
   pub only : (e′ : Expr) → House e′ → Expresses b e′ → e′ ≡ e
-  pub short : length (text e) ≤ 146
+  pub short : length (text e) ≤ formLimit
   pub writes : (buf : List ℕ) → length (text e) ≤ length buf
-      → (answer (plan b) buf ≡ done (length (text e))) × (filled (plan b) buf ≡ text e ++ drop (length (text e)) buf)
-  pub names : (buf : List ℕ) → length buf < length (text e) → (answer (plan b) buf ≡ refusal 12 (length (text e))) × (filled (plan b) buf ≡ buf)
+      → (formAnswer b buf ≡ accepted (length (text e))) × (formBuffer b buf ≡ text e ++ drop (length (text e)) buf)
+  pub names : (buf : List ℕ) → length buf < length (text e) → (formAnswer b buf ≡ refused 12 (length (text e))) × (formBuffer b buf ≡ buf)
 
--- The call's answer to a buffer is `answer (plan b) buf`; its number does not depend on the buffer where it is 13.
+-- The call's answer to a buffer is `formAnswer b buf`.
 pub record Demand (b : List ℕ) : Type 0 where
   -- "no form", 13, exactly if no expression, however nested, uses each goal exactly once and has exactly the record's order
-  pub exactly : (buf : List ℕ) → (answer (plan b) buf .number ≡ 13) ↔ ((e : Expr) → Expresses b e → ⊥)
+  pub exactly : (buf : List ℕ) → (formAnswer b buf ≡ refused 13 0) ↔ ((e : Expr) → Expresses b e → ⊥)
   -- with it the first four goals
-  pub without : (buf : List ℕ) → answer (plan b) buf .number ≡ 13 → (q : Four) × NoForm b q
+  pub without : (buf : List ℕ) → formAnswer b buf ≡ refused 13 0 → (q : Four) × NoForm b q
   -- otherwise the form
-  pub otherwise : (buf : List ℕ) → (answer (plan b) buf .number ≡ 13 → ⊥) → (e : Expr) × HasForm b e
+  pub otherwise : (buf : List ℕ) → (formAnswer b buf ≡ refused 13 0 → ⊥) → (e : Expr) × HasForm b e

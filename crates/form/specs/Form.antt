@@ -1,99 +1,69 @@
 -- Writing the form and the length estimate: what is answered, and what becomes of the lent buffer (01, "What each operation turns down").
 use mathlib.Core.Path.{_≡_}
-use mathlib.Core.Bool.{cond}
 use mathlib.Core.List.{List}
 use mathlib.Core.Option.{Option, none, some}
 use Prim.Native.Nat.{ℕ, _≤_}
 use lib.ListN.{length}
-use Rattle.text.specs.Lent.{fits, stored}
-use Rattle.fields.specs.Fields.{goalCount}
-use Rattle.reading.specs.declared.Reading.{Reading}
-use Rattle.reading.specs.declared.Reading.the-variants as G
-use Rattle.reading.specs.Reading.{reading}
+use Rattle.record_fields.specs.Fields.{goalCount}
+use Rattle.record_rules.specs.Outcome.{Outcome, refused, accepted, readThen, values, sizeIn, bufferAfter}
 use Rattle.expression.specs.Search.{Four, firstN}
 use Rattle.expression.specs.Form.{form}
 use Rattle.expression.specs.Text as T
 use Rattle.order.specs.Order.{before}
-use Rattle.first_n.specs.Found.{four}
-use Rattle.form.specs.declared.Written.{Written}
-use Rattle.form.specs.declared.Written.the-variants as W
-use Rattle.form.specs.declared.Estimate.{Estimate}
-use Rattle.form.specs.declared.Estimate.the-variants as L
+use Rattle.form_first_n.specs.FirstN.{four}
+use Rattle.form.specs.declared.FormAnswer.{FormAnswer}
+use Rattle.form.specs.declared.FormAnswer.the-variants as W
 
--- What the rules settle before a buffer is looked at: a refusal of reading the record with its number and place, "no form" with its four goals, or the text.
-pub data Plan : Type 0 where
-  refused : ℕ → ℕ → Plan
-  noForm : Four → Plan
-  written : List ℕ → Plan
+-- the length of the longest form of 32 goals (T4)
+abbrev pub formLimit : ℕ
+formLimit = 146
 
--- 01: "Writing the form: 13 no expression induces the order": the first N decides
-abbrev pub settled : Option Four → List ℕ → Plan
-settled none t = written t
-settled (some q) t = noForm q
+-- 01: "13 no expression induces the order" (0): the first N decides; else the text
+abbrev pub orThirteen : Option Four → List ℕ → Outcome (List ℕ)
+orThirteen none t = accepted t
+orThirteen (some q) t = refused 13 0
 
--- 01: "Reading the record, which starts every operation"
-abbrev pub started : Reading → Plan → Plan
-started G.Fine p = p
-started (G.Refused r) p = refused (r .number) (r .place)
+-- the first four goals that show that a record's order has no form, or none
+abbrev pub firstFour : List ℕ → Option Four
+firstFour b = firstN (before b) (goalCount b)
 
--- the plan of a record: the refusals of reading it, then 13 with the first N of its order, else the text of the form
-unfoldable pub plan : List ℕ → Plan
-plan b = started (reading b) (settled (firstN (before b) (goalCount b)) (T.text (form (before b) (goalCount b))))
+-- the text of a record's form: the refusals of reading it, then 13
+unfoldable pub formText : List ℕ → Outcome (List ℕ)
+formText b = readThen b (orThirteen (firstFour b) (T.text (form (before b) (goalCount b))))
 
--- ---- Writing the form.
--- 01: "A refusal returns its number and a place, every other field zero (13 also has its four goals)"; else the length of the text that was written
-pub record Values : Type 0 where
-  pub number : ℕ
-  pub place : ℕ
-  pub a : ℕ
-  pub b : ℕ
-  pub c : ℕ
-  pub d : ℕ
-  pub size : ℕ
+-- 01: "13 also has its four goals": with any other answer there are none
+unfoldable pub shown : List ℕ → Option Four
+shown b = values none (readThen b (accepted (firstFour b))) .value
 
-abbrev pub refusal : ℕ → ℕ → Values
-refusal number place = record { number = number; place = place; a = 0; b = 0; c = 0; d = 0; size = 0 }
+-- ---- Writing the form: the answer, and the buffer afterwards.
+abbrev pub formAnswer : List ℕ → List ℕ → Outcome ℕ
+formAnswer b buf = sizeIn (formText b) buf
 
--- 01: 13's "place is 0"
-abbrev pub thirteen : Four → Values
-thirteen q = record { number = 13; place = 0; a = q .a; b = q .b; c = q .c; d = q .d; size = 0 }
+abbrev pub formBuffer : List ℕ → List ℕ → List ℕ
+formBuffer b buf = bufferAfter (formText b) buf
 
-abbrev pub done : ℕ → Values
-done size = record { number = 0; place = 0; a = 0; b = 0; c = 0; d = 0; size = size }
+-- the outcome that the program's answer is, and its four goals
+abbrev pub outcome : FormAnswer → Outcome ℕ
+outcome (W.Done n) = accepted n
+outcome (W.NoForm q) = refused 13 0
+outcome (W.Refused r) = refused (r .number) (r .place)
 
--- the values of the operation's answer
-abbrev pub values : Written → Values
-values (W.Done n) = done n
-values (W.NoForm q) = thirteen (four q)
-values (W.Refused r) = refusal (r .number) (r .place)
+abbrev pub goals : FormAnswer → Option Four
+goals (W.Done n) = none
+goals (W.NoForm q) = some (four q)
+goals (W.Refused r) = none
 
--- the answer, where the buffer is given. 01: "then 12 buffer shorter than the text (place: the length needed)"
-unfoldable pub answer : Plan → List ℕ → Values
-answer (refused k p) buf = refusal k p
-answer (noForm q) buf = thirteen q
-answer (written t) buf = cond (fits t buf) (done (length t)) (refusal 12 (length t))
+-- ---- Length estimate. 01: "it gives a number from the form's length up to 160": `number` is the free part of the promise
+abbrev pub estimateLimit : ℕ
+estimateLimit = 160
 
--- the buffer afterwards. 01: a refusal "changes no lent byte"; "Every accepted call that writes into a lent buffer fills its first bytes and keeps the rest"
-unfoldable pub filled : Plan → List ℕ → List ℕ
-filled (refused k p) buf = buf
-filled (noForm q) buf = buf
-filled (written t) buf = stored t buf
-
--- ---- Length estimate.
-abbrev pub estimate : Estimate → Values
-estimate (L.Length n) = done n
-estimate (L.NoForm q) = thirteen (four q)
-estimate (L.Refused r) = refusal (r .number) (r .place)
-
--- 01: "it gives a number from the form's length up to 160": `number` is the free part of the promise
-pub record Enough (t : List ℕ) (v : Values) : Type 0 where
+pub record Enough (t : List ℕ) (o : Outcome ℕ) : Type 0 where
   pub number : ℕ
   pub least : length t ≤ number
-  pub most : number ≤ 160
-  pub gives : v ≡ done number
+  pub most : number ≤ estimateLimit
+  pub gives : o ≡ accepted number
 
--- 01: "Length estimate: 13. Otherwise it gives a number"
-abbrev pub Estimated : Plan → Values → Type 0
-Estimated (refused k p) v = v ≡ refusal k p
-Estimated (noForm q) v = v ≡ thirteen q
-Estimated (written t) v = Enough t v
+-- 01: "Length estimate: 13. Otherwise it gives a number", for the text of the form
+abbrev pub Estimated : Outcome (List ℕ) → Outcome ℕ → Type 0
+Estimated (refused k p) o = o ≡ refused k p
+Estimated (accepted t) o = Enough t o

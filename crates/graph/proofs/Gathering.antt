@@ -15,11 +15,11 @@ use Rattle.logic.specs.Quantifiers.{someBelow}
 use Rattle.logic.proofs.Bools.{test, by-test, iff, is-false, and-l, and-r, and-i, or-elim, or-l, or-r}
 use Rattle.logic.proofs.Quantifiers.{below-in, below-out}
 use Rattle.sets.specs.Sets.{has, union, without, single, below, first, members}
-use Rattle.sets.proofs.Laws.{has-empty, has-union, has-without, has-single, has-below, first-member, member-below}
+use Rattle.sets.proofs.Membership.{has-empty, has-union, has-without, has-single, has-below, first-member, member-below}
 use Rattle.sets.proofs.Members.{first-in, other, fewer, no-more}
 use Rattle.sets.proofs.Builder.{single-lt, members-lt, union-lt, has-setOf, has-setOf-in, setOf-ext, setOf-cong}
-use Rattle.arrays.specs.Table.{table}
-use Rattle.arrays.proofs.Table.{table-ext}
+use Rattle.logic.specs.Table.{table}
+use Rattle.logic.proofs.Table.{table-ext}
 use Rattle.graph.specs.Graph.{ahead, goalsOf, Within}
 use Rattle.graph.specs.Passes.{pass, gather, Still, sameRows}
 use Rattle.graph.proofs.Rows.{goals-has, rows-length, row-past, row-lt}

@@ -6,7 +6,7 @@ use native.Mathlib.Omega.{arith}
 use borrow.Author.Tests.{eq-eqb, eqb-true}
 use Rattle.logic.proofs.Bools.{iff, and-l, and-r, and-i, not-true}
 use Rattle.sets.specs.Sets.{has, union, meet, without, single, first, count}
-use Rattle.sets.proofs.Laws.{has-union, has-meet, has-without, has-single, has-empty, member-below, first-least, first-member, ext}
+use Rattle.sets.proofs.Membership.{has-union, has-meet, has-without, has-single, has-empty, member-below, first-least, first-member, ext}
 use Rattle.sets.proofs.Members.{first-in, count-less}
 use Rattle.sets.proofs.Builder.{members-lt}
 use Rattle.graph.specs.Graph.{hasGoal}

@@ -9,10 +9,10 @@ use native.Mathlib.Omega.{arith}
 use lib.ListN.{getD}
 use borrow.Author.Tests.{lt-ltb}
 use Rattle.logic.specs.Quantifiers.{someBelow}
-use Rattle.logic.proofs.Bools.{iff, and-i, and-true, not-i, not-out, or-true as or-cases}
+use Rattle.logic.proofs.Bools.{iff, and-i, and-true, not-i, not-out, or-true as or-cases, not-same}
 use Rattle.logic.proofs.Quantifiers.{below-in, below-out}
 use Rattle.sets.specs.Sets.{has, without, below, count}
-use Rattle.sets.proofs.Laws.{has-without, has-below, ext}
+use Rattle.sets.proofs.Membership.{has-without, has-below, ext}
 use Rattle.sets.proofs.Builder.{without-lt}
 use Rattle.graph.specs.Graph.{ahead, hasGoal, rowsOf, Within}
 use Rattle.graph.specs.Closure.{Chain, wait, link, closed}
@@ -91,12 +91,6 @@ lacks-less n a b h la lb d =
     part (suc i) e =
         let r = and-true (has (below n) i) (not (has b i)) (sym (lacked b i) ∙ e) in
         lacked a i ∙ and-i (has (below n) i) (not (has a i)) (r .0) (not-i (has a i) (λ t. not-out (has b i) (r .1) (h (suc i) t)))
-
-    not-same : (p q : Bool) → not p ≡ not q → p ≡ q
-    not-same true true e = refl
-    not-same true false e = sym e
-    not-same false true e = sym e
-    not-same false false e = refl
 
     same : (i : ℕ) → i < n → without (below n) b ≡ without (below n) a → has a i ≡ has b i
     same i l e =

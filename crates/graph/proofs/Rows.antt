@@ -9,9 +9,9 @@ use native.Mathlib.Omega.{arith}
 use lib.ListN.{length, getD, replicate, length-replicate, getD-replicate}
 use lib.Pow.{pow-pos}
 use Rattle.sets.specs.Sets.{has}
-use Rattle.sets.proofs.Laws.{has-above, has-empty, member-below}
+use Rattle.sets.proofs.Membership.{has-above, has-empty, member-below}
 use Rattle.sets.proofs.Builder.{setOf-lt, has-setOf-in, setOf-ext}
-use Rattle.arrays.proofs.Table.{table-length, table-at, table-past, table-ext}
+use Rattle.logic.proofs.Table.{table-length, table-at, table-past, table-ext}
 use Rattle.graph.specs.Graph.{hasGoal, ahead, goalsOf, rowsOf, Within, transposed}
 
 -- the set of goals of which f holds

@@ -13,10 +13,10 @@ use lib.Seq.{getD-set-same, getD-set-other}
 use borrow.Author.Tests.{eq-eqb, ne-eqb, eqb-true, eqb-false, lt-ltb, le-ltb, ltb-true, ltb-false}
 use Rattle.logic.proofs.Bools.{by-test}
 use Rattle.sets.specs.Sets.{has}
-use Rattle.sets.proofs.Laws.{has-above, has-empty, none-empty, below-of}
+use Rattle.sets.proofs.Membership.{has-above, has-empty, none-empty, below-of}
 use Rattle.sets.proofs.Builder.{setOf-lt, setOf-ext, has-setOf-in}
-use Rattle.arrays.specs.Table.{table}
-use Rattle.arrays.proofs.Table.{table-length, table-at, table-past, table-ext}
+use Rattle.logic.specs.Table.{table}
+use Rattle.logic.proofs.Table.{table-length, table-at, table-past, table-ext}
 use Rattle.graph.specs.Graph.{ahead, rowsOf, Words, Within, transposed}
 use Rattle.graph.specs.Exchange.{Width, nearBit, farBit, Row, Block, rowAfter, round}
 use Rattle.graph.proofs.Rows.{rows-length, row-past, row-lt, rows-ext}

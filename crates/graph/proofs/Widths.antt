@@ -1,6 +1,6 @@
 -- Arithmetic of the five widths, and the two rows that a round makes of two.
 use mathlib.Core.Path.{_≡_, refl, sym, ap, ap₂, _∙_, subst}
-use mathlib.Core.Bool.{Bool, true, false, not, _&&_, _||_, cond}
+use mathlib.Core.Bool.{Bool, true, false, not, _&&_, _||_, cond, and-true, and-false, or-false}
 use mathlib.Core.Logic.{_⊎_, inl, inr, dite}
 use Prim.Native.Nat.{ℕ, _+_, _-_, _*_, _/_, _%_, _^_, _≤_, _<_}
 use native.Mathlib.Decide.{decLt}
@@ -10,7 +10,7 @@ use lib.Pow.{shl-exact}
 use borrow.Author.Tests.{eq-eqb, ne-eqb, eqb-true, eqb-false}
 use Rattle.logic.proofs.Bools.{and-r}
 use Rattle.sets.specs.Sets.{has, union, meet, without, setOf}
-use Rattle.sets.proofs.Laws.{has-union, has-meet, has-without, member-below}
+use Rattle.sets.proofs.Membership.{has-union, has-meet, has-without, member-below}
 use Rattle.sets.proofs.Builder.{members-lt, setOf-lt, has-setOf-in}
 use Rattle.graph.specs.Exchange.{Width, half, nearBit, farBit}
 use Rattle.sets.proofs.Shifts.{has-shr, has-shl, shl-under}
@@ -142,18 +142,6 @@ module _ (w : ℕ) (is : Width w) where
         at-partner : w ≤ j → has (meet b h * 2 ^ w) j ≡ has b (j - w) && eqb ((j - w) / w % 2) 0
         at-partner k =
             has-shl (meet b h) w j k ∙ has-meet b h (j - w) ∙ ap (λ (t : Bool). has b (j - w) && t) (h-has (j - w) (omega arith))
-
-        and-true : (p : Bool) → p && true ≡ p
-        and-true true = refl
-        and-true false = refl
-
-        and-false : (p : Bool) → p && false ≡ false
-        and-false true = refl
-        and-false false = refl
-
-        or-false : (p : Bool) → p || false ≡ p
-        or-false true = refl
-        or-false false = refl
 
         go : (t : Bool) → eqb (j / w % 2) 0 ≡ t → (has a j && t) || has (meet b h * 2 ^ w) j ≡ cond t (has a j) (has b (j - w))
         go true z =

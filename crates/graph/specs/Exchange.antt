@@ -8,7 +8,7 @@ use Prim.Native.Nat.{ℕ, _+_, _-_, _*_, _/_, _%_, _≤_, _<_}
 use lib.Dec.{eqb, ltb}
 use lib.ListN.{getD}
 use Rattle.sets.specs.Sets.{has, setOf}
-use Rattle.arrays.specs.Table.{table}
+use Rattle.logic.specs.Table.{table}
 use Rattle.graph.specs.Graph.{Words}
 
 -- the widths of the rounds

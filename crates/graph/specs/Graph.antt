@@ -4,8 +4,8 @@ use mathlib.Core.Bool.{Bool, false}
 use mathlib.Core.List.{List}
 use Prim.Native.Nat.{ℕ, zero, suc, _^_, _<_}
 use lib.ListN.{length, getD, replicate}
-use Rattle.sets.specs.Sets.{has, setOf}
-use Rattle.arrays.specs.Table.{table}
+use Rattle.sets.specs.Sets.{goalLimit, has, setOf}
+use Rattle.logic.specs.Table.{table}
 use Rattle.graph.specs.declared.Graph.{Graph}
 
 -- goal g is in the set m; 0 is no goal
@@ -32,11 +32,11 @@ rowsOf w n R = table w n (λ i. goalsOf n (R (suc i)))
 
 -- the graph of a relation on the goals 1 to n
 abbrev pub graphOf : ℕ → (ℕ → ℕ → Bool) → Graph
-graphOf n R = record { n = n; rows = rowsOf 32 n R }
+graphOf n R = record { n = n; rows = rowsOf goalLimit n R }
 
 -- the graph of n goals without an edge
 abbrev pub edgeless : ℕ → Graph
-edgeless n = record { n = n; rows = replicate 32 0 }
+edgeless n = record { n = n; rows = replicate goalLimit 0 }
 
 -- w rows of w bits each: what the type of an array of rows says, and a reference to it does not tell
 pub record Words (w : ℕ) (rows : List ℕ) : Type 0 where

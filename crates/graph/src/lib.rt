@@ -9,6 +9,7 @@ ghost use Rattle.graph.specs.Graph as G;
 ghost use Rattle.graph.specs.Exchange as X;
 ghost use Rattle.graph.specs.Closure as C;
 ghost use Rattle.graph.specs.Passes as P;
+ghost use Rattle.graph.specs.Linking.{Linked};
 
 // Row g - 1 is the set of the goals that goal g is before, goal h at bit h - 1; rows past the count are zero.
 pub struct Graph {
@@ -194,4 +195,20 @@ pub fn transposed(rows: &[u32; Graph::MAX], n: usize) -> [u32; Graph::MAX]
     exchange(&mut turned, n, 2, 0x3333_3333);
     exchange(&mut turned, n, 1, 0x5555_5555);
     turned
+}
+
+// Each goal of `front` is before each goal of `later`, beside what the rows have. Only the rows of `front` are touched, and none if there is nothing to put.
+pub fn link(rows: &mut [u32; Graph::MAX], front: u32, later: u32)
+    requires { ⌜ G.Words 32 (now rows) ⌝ }
+    ensures { λ _. ⌜ Linked 32 front later (now (rows .entry)) (now (rows .exit)) ⌝ }
+{
+    if later == 0 {
+        return;
+    }
+    let mut left = front;
+    while left != 0 {
+        let i = sets::first32(left);
+        rows[i] = rows[i] | later;
+        left = sets::without_first32(left);
+    }
 }

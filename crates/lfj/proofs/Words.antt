@@ -1,22 +1,25 @@
--- The words, case by case.
-use mathlib.Core.Path.{_≡_, sym, ap, _∙_}
-use Prim.Native.Nat.{ℕ, _+_, _-_, _*_, _%_, _^_}
+-- The word of each case of an answer.
+use mathlib.Core.Path.{_≡_, refl, sym, ap, ap₂, _∙_}
+use mathlib.Core.Option.{Option, none, some}
+use mathlib.Core.List.{List}
+use Prim.Native.Nat.{ℕ, _+_, _*_, _%_, _^_}
 use native.Mathlib.Omega.{arith}
-use Rattle.refusal.specs.declared.Refusal.{Refusal}
-use Rattle.compare.specs.declared.Pair.{Pair}
-use Rattle.compare.specs.declared.Verdict as Verdicts
-use Rattle.compare.specs.declared.Verdict.the-variants.{Same, Differs}
-use Rattle.compare.specs.Verdicts.{verdictOf}
-use Rattle.first_n.specs.declared.Four.{Four}
-use Rattle.first_n.specs.Found.{four}
+use Rattle.record_rules.specs.declared.Refusal.{Refusal}
+use Rattle.record_rules.specs.Outcome.{Outcome, refused, accepted}
+use Rattle.expression.specs.Search.{Four}
+use Rattle.expression_grammar.specs.Check as Check
+use Rattle.order_compare.specs.declared.Pair.{Pair}
+use Rattle.order_compare.specs.declared.Verdict as Verdicts
+use Rattle.order_compare.specs.declared.Verdict.the-variants.{Same, Differs}
+use Rattle.order_compare.specs.Verdicts.{verdictOf}
+use Rattle.form_first_n.specs.declared.Four.{Four as Goals}
+use Rattle.form_first_n.specs.FirstN.{four}
 use Rattle.form.specs.Form as F
-use Rattle.form.specs.declared.Written as Forms
-use Rattle.form.specs.declared.Written.the-variants as O
-use Rattle.form.specs.declared.Estimate as Estimates
-use Rattle.form.specs.declared.Estimate.the-variants as L
+use Rattle.form.specs.declared.FormAnswer.{FormAnswer}
+use Rattle.form.specs.declared.FormAnswer.the-variants as O
 use Rattle.mel.specs.Annotation as M
-use Rattle.mel.specs.declared.Written.{Written}
-use Rattle.mel.specs.declared.Written.the-variants as T
+use Rattle.mel.specs.declared.MelAnswer.{MelAnswer}
+use Rattle.mel.specs.declared.MelAnswer.the-variants as T
 use Rattle.annotator.specs.declared.ReadAnswer.{ReadAnswer}
 use Rattle.annotator.specs.declared.ReadAnswer.the-variants.{Accepted, Refused}
 use Rattle.annotator.specs.declared.Span.{Span}
@@ -24,81 +27,71 @@ use Rattle.annotator.specs.declared.TextAnswer.{TextAnswer}
 use Rattle.annotator.specs.declared.TextAnswer.the-variants.{At, NoText}
 use Rattle.annotator.specs.declared.CheckAnswer.{CheckAnswer}
 use Rattle.annotator.specs.declared.CheckAnswer.the-variants.{Verdict, Rejected}
-use Rattle.annotator.specs.Answers.{ReadValues, readValues, TextValues, textValues, CheckValues, checkValues, saying}
-use Rattle.lfj.specs.Words.{refusalWord, readWord, formWord, EstimateWord, melWord, textWord, checkWord}
+use Rattle.annotator.specs.Answers.{readOutcome, textOutcome, checkOutcome}
+use Rattle.lfj.specs.Words.{refusalWord, word, readWord, goalsWord, formWord, EstimateWord, melWord, textWord, verdictWord, checkWord}
 
--- a refusal's number and place make its word
-pub read-refused : {s : ReadAnswer} {v : ReadValues} {w : ℕ} (r : Refusal) → readValues s ≡ v → s ≡ Refused r → w ≡ refusalWord (r .number) (r .place)
-    → w ≡ readWord v
-unfolding readWord
-read-refused r e f h = omega (arith, h) ∙ ap readWord (ap readValues (sym f) ∙ e)
+-- ---- A refusal's number and place make its word, and a value its own.
+module _ {s : ReadAnswer} {o : Outcome ℕ} (e : readOutcome s ≡ o) where
+  pub read-refused : {w : ℕ} (r : Refusal) → s ≡ Refused r → w ≡ refusalWord (r .number) (r .place) → w ≡ readWord o
+  unfolding readWord
+  read-refused r f h = h ∙ ap (λ (x : Outcome ℕ). word (λ n. n) x) (ap readOutcome (sym f) ∙ e)
 
-pub text-refused : {s : TextAnswer} {v : TextValues} {w : ℕ} (r : Refusal) → textValues s ≡ v → s ≡ NoText r → w ≡ refusalWord (r .number) (r .place)
-    → w ≡ textWord v
-unfolding textWord
-text-refused r e f h = omega (arith, h) ∙ ap textWord (ap textValues (sym f) ∙ e)
+  pub read-accepted : (n : ℕ) → s ≡ Accepted n → n ≡ readWord o
+  unfolding readWord
+  read-accepted n f = ap (λ (x : Outcome ℕ). word (λ n. n) x) (ap readOutcome (sym f) ∙ e)
 
-pub check-refused : {s : CheckAnswer} {v : CheckValues} {w : ℕ} (r : Refusal) → checkValues s ≡ v → s ≡ Rejected r
-    → w ≡ refusalWord (r .number) (r .place) → w ≡ checkWord v
-unfolding checkWord
-check-refused r e f h = omega (arith, h) ∙ ap checkWord (ap checkValues (sym f) ∙ e)
+module _ {s : TextAnswer} {o : Outcome Span} (e : textOutcome s ≡ o) where
+  pub text-refused : {w : ℕ} (r : Refusal) → s ≡ NoText r → w ≡ refusalWord (r .number) (r .place) → w ≡ textWord o
+  unfolding textWord
+  text-refused r f h = h ∙ ap textWord (ap textOutcome (sym f) ∙ e)
 
-pub mel-refused : {s : Written} {v : M.Values} {w : ℕ} (r : Refusal) → M.values s ≡ v → s ≡ T.Refused r → w ≡ refusalWord (r .number) (r .place)
-    → w ≡ melWord v
-unfolding melWord M.values
-mel-refused r e f h = omega (arith, h) ∙ ap melWord (ap M.values (sym f) ∙ e)
+  pub text-accepted : {w : ℕ} (a : Span) → s ≡ At a → w ≡ a .place % 2 ^ 32 → w + a .size % 2 ^ 16 * 2 ^ 32 ≡ textWord o
+  unfolding textWord
+  text-accepted a f h = ap (λ (x : ℕ). x + a .size % 2 ^ 16 * 2 ^ 32) h ∙ ap textWord (ap textOutcome (sym f) ∙ e)
 
--- an accepted answer's word
-pub read-accepted : {s : ReadAnswer} {v : ReadValues} (n : ℕ) → readValues s ≡ v → s ≡ Accepted n → n ≡ readWord v
-unfolding readWord refusalWord
-read-accepted n e f = omega arith ∙ ap readWord (ap readValues (sym f) ∙ e)
+module _ {s : CheckAnswer} {o : Outcome Check.Verdict} (e : checkOutcome s ≡ o) where
+  pub check-refused : {w : ℕ} (r : Refusal) → s ≡ Rejected r → w ≡ refusalWord (r .number) (r .place) → w ≡ checkWord o
+  unfolding checkWord
+  check-refused r f h = h ∙ ap checkWord (ap checkOutcome (sym f) ∙ e)
 
-pub text-accepted : {s : TextAnswer} {v : TextValues} {w : ℕ} (a : Span) → textValues s ≡ v → s ≡ At a → w ≡ a .place % 2 ^ 32
-    → w + a .size % 2 ^ 16 * 2 ^ 32 ≡ textWord v
-unfolding textWord refusalWord
-text-accepted a e f h = omega (arith, h) ∙ ap textWord (ap textValues (sym f) ∙ e)
+  pub check-verdict : {w : ℕ} {x : Verdicts.Verdict} → s ≡ Verdict x → w ≡ verdictWord (verdictOf x) → w ≡ checkWord o
+  unfolding checkWord
+  check-verdict f h = h ∙ ap checkWord (ap checkOutcome (sym f) ∙ e)
 
-pub mel-accepted : {s : Written} {v : M.Values} {w : ℕ} (n : ℕ) → M.values s ≡ v → s ≡ T.Done n → w ≡ n % 2 ^ 32 → w ≡ melWord v
-unfolding melWord refusalWord M.values
-mel-accepted n e f h = omega (arith, h) ∙ ap melWord (ap M.values (sym f) ∙ e)
+module _ {s : MelAnswer} {o : Outcome ℕ} (e : M.outcome s ≡ o) where
+  pub mel-refused : {w : ℕ} (r : Refusal) → s ≡ T.Refused r → w ≡ refusalWord (r .number) (r .place) → w ≡ melWord o
+  unfolding melWord
+  mel-refused r f h = h ∙ ap melWord (ap M.outcome (sym f) ∙ e)
 
-pub check-verdict : {s : CheckAnswer} {v : CheckValues} {w : ℕ} {x : Verdicts.Verdict} → checkValues s ≡ v → s ≡ Verdict x → w ≡ checkWord (saying (verdictOf x))
-    → w ≡ checkWord v
-check-verdict e f h = h ∙ ap checkWord (ap checkValues (sym f) ∙ e)
+  pub mel-accepted : {w : ℕ} (n : ℕ) → s ≡ T.Done n → w ≡ n % 2 ^ 32 → w ≡ melWord o
+  unfolding melWord
+  mel-accepted n f h = h ∙ ap melWord (ap M.outcome (sym f) ∙ e)
 
-pub same-word : {x : Verdicts.Verdict} → x ≡ Same → 0 ≡ checkWord (saying (verdictOf x))
-unfolding checkWord refusalWord
-same-word f = ap (λ (y : Verdicts.Verdict). checkWord (saying (verdictOf y))) (sym f)
+-- ---- The verdict's word.
+pub same-word : {x : Verdicts.Verdict} → x ≡ Same → 0 ≡ verdictWord (verdictOf x)
+same-word f = ap (λ (y : Verdicts.Verdict). verdictWord (verdictOf y)) (sym f)
 
-pub differs-word : {x : Verdicts.Verdict} (p : Pair) → x ≡ Differs p → p .i % 2 ^ 8 + p .j % 2 ^ 8 * 2 ^ 8 ≡ checkWord (saying (verdictOf x))
-unfolding checkWord refusalWord
-differs-word p f = omega arith ∙ ap (λ (y : Verdicts.Verdict). checkWord (saying (verdictOf y))) (sym f)
+pub differs-word : {x : Verdicts.Verdict} (p : Pair) → x ≡ Differs p → p .i % 2 ^ 8 + p .j % 2 ^ 8 * 2 ^ 8 ≡ verdictWord (verdictOf x)
+differs-word p f = ap (λ (y : Verdicts.Verdict). verdictWord (verdictOf y)) (sym f)
 
--- ---- The form, and the estimate of its length.
-refusal-word : {w : ℕ} (r : Refusal) → w ≡ refusalWord (r .number) (r .place) → w ≡ formWord (F.refusal (r .number) (r .place))
-unfolding formWord
-refusal-word r h = omega (arith, h)
+-- ---- The form, and the estimate of its length: the answer's word, whatever the case.
+abbrev pub answerWord : FormAnswer → ℕ
+answerWord s = formWord (F.outcome s) (F.goals s)
 
-done-word : {w : ℕ} (n : ℕ) → w ≡ n % 2 ^ 32 → w ≡ formWord (F.done n)
-unfolding formWord refusalWord
-done-word n h = omega (arith, h)
+module _ {s : FormAnswer} {w : ℕ} where
+  pub form-refused : (r : Refusal) → s ≡ O.Refused r → w ≡ refusalWord (r .number) (r .place) → w ≡ answerWord s
+  unfolding formWord
+  form-refused r f h = omega (arith, h) ∙ ap answerWord (sym f)
 
-module _ {s : Forms.Written} {v : F.Values} {w : ℕ} (e : F.values s ≡ v) where
-  pub form-refused : (r : Refusal) → s ≡ O.Refused r → w ≡ refusalWord (r .number) (r .place) → w ≡ formWord v
-  form-refused r f h = refusal-word r h ∙ ap formWord (ap F.values (sym f) ∙ e)
+  pub form-none : (q : Goals) → s ≡ O.NoForm q → w ≡ formWord (refused 13 0) (some (four q)) → w ≡ answerWord s
+  form-none q f h = h ∙ ap answerWord (sym f)
 
-  pub form-none : (q : Four) → s ≡ O.NoForm q → w ≡ formWord (F.thirteen (four q)) → w ≡ formWord v
-  form-none q f h = h ∙ ap formWord (ap F.values (sym f) ∙ e)
+  pub form-done : (n : ℕ) → s ≡ O.Done n → w ≡ n % 2 ^ 32 → w ≡ answerWord s
+  unfolding formWord
+  form-done n f h = omega (arith, h) ∙ ap answerWord (sym f)
 
-  pub form-done : (n : ℕ) → s ≡ O.Done n → w ≡ n % 2 ^ 32 → w ≡ formWord v
-  form-done n f h = done-word n h ∙ ap formWord (ap F.values (sym f) ∙ e)
+pub form-word : (s : FormAnswer) {w : ℕ} {o : Outcome ℕ} {g : Option Four} → F.outcome s ≡ o → F.goals s ≡ g → w ≡ answerWord s → w ≡ formWord o g
+form-word s e f h = h ∙ ap₂ formWord e f
 
-module _ {s : Estimates.Estimate} {p : F.Plan} {w : ℕ} (e : F.Estimated p (F.estimate s)) where
-  pub length-refused : (r : Refusal) → s ≡ L.Refused r → w ≡ refusalWord (r .number) (r .place) → EstimateWord p w
-  length-refused r f h = record { values = F.estimate s; estimated = e; word = refusal-word r h ∙ ap (λ (x : Estimates.Estimate). formWord (F.estimate x)) (sym f) }
-
-  pub length-none : (q : Four) → s ≡ L.NoForm q → w ≡ formWord (F.thirteen (four q)) → EstimateWord p w
-  length-none q f h = record { values = F.estimate s; estimated = e; word = h ∙ ap (λ (x : Estimates.Estimate). formWord (F.estimate x)) (sym f) }
-
-  pub length-known : (n : ℕ) → s ≡ L.Length n → w ≡ n % 2 ^ 32 → EstimateWord p w
-  length-known n f h = record { values = F.estimate s; estimated = e; word = done-word n h ∙ ap (λ (x : Estimates.Estimate). formWord (F.estimate x)) (sym f) }
+pub length-word : (s : FormAnswer) {w : ℕ} (b : List ℕ) → F.Estimated (F.formText b) (F.outcome s) → F.goals s ≡ F.shown b → w ≡ answerWord s → EstimateWord b w
+length-word s b e f h = record { answer = F.outcome s; estimated = e; says = form-word s refl f h }

@@ -1,68 +1,67 @@
--- The answer word of each exported function, a number of 64 bits, over the paper's values (annotator/specs/Answers, form/specs/Form,
--- mel/specs/Annotation). Of every word:
--- bits 56 to 63 have the refusal's number, 0 if accepted; bits 0 to 31 the place if refused; the rest is said at each function. With a refusal every other
--- value is 0, and with none its number and place are, so that a word is the sum of its parts.
+-- The answer word of each exported function, a number of 64 bits, over the outcomes of the operations (annotator/specs/Answers, form/specs/Form, mel/specs/Annotation). Of
+-- every word bits 56 to 63 have the refusal's number, 0 if accepted, and bits 0 to 31 the place if refused; the rest is said at each function, and is 0 with a refusal but
+-- for 13's goals.
 use mathlib.Core.Path.{_≡_}
-use mathlib.Core.Bool.{_&&_, cond}
 use mathlib.Core.List.{List}
+use mathlib.Core.Option.{Option, none, some}
 use Prim.Native.Nat.{ℕ, _+_, _*_, _%_, _^_}
-use lib.Dec.{leb}
 use Rattle.graph.specs.Graph.{goalsOf}
-use Rattle.fields.specs.Fields.{goalCount}
-use Rattle.reading.specs.Reading.{reading}
+use Rattle.record_fields.specs.Fields.{goalCount}
+use Rattle.record_rules.specs.Outcome.{Outcome, refused, accepted, readThen}
 use Rattle.order.specs.Order.{before}
+use Rattle.expression.specs.Search.{Four}
+use Rattle.expression_grammar.specs.Check.{Verdict, same, differs}
 use Rattle.form.specs.Form as F
-use Rattle.mel.specs.Annotation as M
-use Rattle.annotator.specs.Answers.{afterReading, ReadValues, TextValues, CheckValues}
+use Rattle.annotator.specs.declared.Span.{Span}
+use Rattle.annotator.specs.Answers.{ofGoal}
 
 -- The number at bits 56 to 63, the place at bits 0 to 31: no place has more bits, whatever the record's length, and no length (specs/Fits.antt).
 unfoldable pub refusalWord : ℕ → ℕ → ℕ
 refusalWord number place = number * 2 ^ 56 + place % 2 ^ 32
 
+-- a refusal's word, or that of the value
+abbrev pub word : {A : Type 0} → (A → ℕ) → Outcome A → ℕ
+word f (refused k p) = refusalWord k p
+word f (accepted x) = f x
+
 -- `lfj_read`: the goal count
-unfoldable pub readWord : ReadValues → ℕ
-readWord v = refusalWord (v .number) (v .place) + v .goals
+unfoldable pub readWord : Outcome ℕ → ℕ
+readWord o = word (λ n. n) o
 
 -- `lfj_after`: the set of the goals that `goal` is before, goal g at bit g - 1; for a goal outside the record 14, as in 01, "14 goal number outside 1 to n
 -- (0)"
-pub record AfterValues : Type 0 where
-  pub number : ℕ
-  pub place : ℕ
-  pub goals : ℕ
+unfoldable pub after : List ℕ → ℕ → Outcome ℕ
+after b g = readThen b (ofGoal b g (accepted (goalsOf (goalCount b) (before b g))))
 
-abbrev pub noGoals : ℕ → ℕ → AfterValues
-noGoals k p = record { number = k; place = p; goals = 0 }
-
-abbrev pub goalsAfter : List ℕ → ℕ → AfterValues
-goalsAfter b g = record { number = 0; place = 0; goals = goalsOf (goalCount b) (before b g) }
-
-unfoldable pub after : List ℕ → ℕ → AfterValues
-after b g = afterReading noGoals (reading b) (cond (leb 1 g && leb g (goalCount b)) (goalsAfter b g) (noGoals 14 0))
-
-unfoldable pub afterWord : AfterValues → ℕ
-afterWord v = refusalWord (v .number) (v .place) + v .goals
+unfoldable pub afterWord : Outcome ℕ → ℕ
+afterWord o = word (λ m. m) o
 
 -- `lfj_form`: the length; with 13 the goals a, b, c, d at bits 32, 38, 44 and 50, six bits each
-unfoldable pub formWord : F.Values → ℕ
-formWord v =
-    refusalWord (v .number) (v .place) + v .size % 2 ^ 32 + v .a % 2 ^ 6 * 2 ^ 32 + v .b % 2 ^ 6 * 2 ^ 38 + v .c % 2 ^ 6 * 2 ^ 44
-    + v .d % 2 ^ 6 * 2 ^ 50
+abbrev pub goalsWord : Option Four → ℕ
+goalsWord none = 0
+goalsWord (some q) = q .a % 2 ^ 6 * 2 ^ 32 + q .b % 2 ^ 6 * 2 ^ 38 + q .c % 2 ^ 6 * 2 ^ 44 + q .d % 2 ^ 6 * 2 ^ 50
 
--- `lfj_form_length`: the estimate, with its free part: w is the word of values that 01 allows: a refusal's, 13's with its goals, or those
--- of a number from the form's length up to 160
-pub record EstimateWord (p : F.Plan) (w : ℕ) : Type 0 where
-  pub values : F.Values
-  pub estimated : F.Estimated p values
-  pub word : w ≡ formWord values
+unfoldable pub formWord : Outcome ℕ → Option Four → ℕ
+formWord o s = word (λ n. n % 2 ^ 32) o + goalsWord s
+
+-- `lfj_form_length`: the estimate, with its free part: w is the word of an answer that 01 allows
+pub record EstimateWord (b : List ℕ) (w : ℕ) : Type 0 where
+  pub answer : Outcome ℕ
+  pub estimated : F.Estimated (F.formText b) answer
+  pub says : w ≡ formWord answer (F.shown b)
 
 -- `lfj_mel`: the length
-unfoldable pub melWord : M.Values → ℕ
-melWord v = refusalWord (v .number) (v .place) + v .size % 2 ^ 32
+unfoldable pub melWord : Outcome ℕ → ℕ
+melWord o = word (λ n. n % 2 ^ 32) o
 
 -- `lfj_goal_text`: the place, and the length at bits 32 to 47
-unfoldable pub textWord : TextValues → ℕ
-textWord v = refusalWord (v .number) (v .place) + v .start % 2 ^ 32 + v .size % 2 ^ 16 * 2 ^ 32
+unfoldable pub textWord : Outcome Span → ℕ
+textWord o = word (λ s. s .place % 2 ^ 32 + s .size % 2 ^ 16 * 2 ^ 32) o
 
 -- `lfj_check`: 0 for same, else i at bits 0 to 7 and j at bits 8 to 15; the bits 16 to 55 are 0
-unfoldable pub checkWord : CheckValues → ℕ
-checkWord v = refusalWord (v .number) (v .place) + v .i % 2 ^ 8 + v .j % 2 ^ 8 * 2 ^ 8
+abbrev pub verdictWord : Verdict → ℕ
+verdictWord same = 0
+verdictWord (differs i j) = i % 2 ^ 8 + j % 2 ^ 8 * 2 ^ 8
+
+unfoldable pub checkWord : Outcome Verdict → ℕ
+checkWord o = word verdictWord o

@@ -3,15 +3,17 @@
 use annotator::CheckAnswer;
 use annotator::ReadAnswer;
 use annotator::TextAnswer;
-use compare::Verdict;
-use first_n::Four;
-use form::Estimate;
+use form::FormAnswer;
+use form_first_n::Four;
 use graph::Graph;
-use refusal::Refusal;
+use order_compare::Verdict;
+use record_rules::Refusal;
 ghost use mathlib.Core.Path.{_≡_};
 ghost use Prim.Native.Nat.{_%_, _^_};
-ghost use Rattle.compare.specs.Verdicts.{verdictOf};
-ghost use Rattle.first_n.specs.Found.{four};
+ghost use Rattle.order_compare.specs.Verdicts.{verdictOf};
+ghost use mathlib.Core.Option.{some};
+ghost use Rattle.record_rules.specs.Outcome.{accepted, refused};
+ghost use Rattle.form_first_n.specs.FirstN.{four};
 ghost use Rattle.form.specs.Form as F;
 ghost use Rattle.mel.specs.Annotation as M;
 ghost use Rattle.annotator.specs.Answers as P;
@@ -68,7 +70,7 @@ pub extern "C" fn lfj_after(bytes: &[u8], goal: u32) -> u64
 
 // The word of refusal 13 with its goals.
 fn no_form(q: Four) -> u64
-    ensures { λ w. ⌜ w ≡ W.formWord (F.thirteen (four q)) ⌝ }
+    ensures { λ w. ⌜ w ≡ W.formWord (refused 13 0) (some (four q)) ⌝ }
 {
     let a = q.a as u64 % 0x40;
     let b = q.b as u64 % 0x40;
@@ -82,25 +84,25 @@ fn no_form(q: Four) -> u64
 // Writes the house form into `out`: its length.
 #[no_mangle]
 pub extern "C" fn lfj_form(bytes: &[u8], out: &mut [u8]) -> u64
-    ensures { λ r. ⌜ r ≡ W.formWord (F.answer (F.plan (now (bytes .entry))) (now (out .entry))) ⌝ }
-    ensures { λ _. ⌜ now (out .exit) ≡ F.filled (F.plan (now (bytes .entry))) (now (out .entry)) ⌝ }
+    ensures { λ r. ⌜ r ≡ W.formWord (F.formAnswer (now (bytes .entry)) (now (out .entry))) (F.shown (now (bytes .entry))) ⌝ }
+    ensures { λ _. ⌜ now (out .exit) ≡ F.formBuffer (now (bytes .entry)) (now (out .entry)) ⌝ }
 {
     match annotator::form(bytes, out) {
-        form::Written::Refused(r) => refused(r),
-        form::Written::NoForm(q) => no_form(q),
-        form::Written::Done(n) => low(n),
+        FormAnswer::Refused(r) => refused(r),
+        FormAnswer::NoForm(q) => no_form(q),
+        FormAnswer::Done(n) => low(n),
     }
 }
 
 // Estimates the form's length.
 #[no_mangle]
 pub extern "C" fn lfj_form_length(bytes: &[u8]) -> u64
-    ensures { λ r. ⌜ W.EstimateWord (F.plan (now (bytes .entry))) r ⌝ }
+    ensures { λ r. ⌜ W.EstimateWord (now (bytes .entry)) r ⌝ }
 {
     match annotator::form_length(bytes) {
-        Estimate::Refused(r) => refused(r),
-        Estimate::NoForm(q) => no_form(q),
-        Estimate::Length(n) => low(n),
+        FormAnswer::Refused(r) => refused(r),
+        FormAnswer::NoForm(q) => no_form(q),
+        FormAnswer::Done(n) => low(n),
     }
 }
 
@@ -111,8 +113,8 @@ pub extern "C" fn lfj_mel(bytes: &[u8], out: &mut [u8]) -> u64
     ensures { λ _. ⌜ now (out .exit) ≡ M.melBuffer (now (bytes .entry)) (now (out .entry)) ⌝ }
 {
     match annotator::mel(bytes, out) {
-        mel::Written::Refused(r) => refused(r),
-        mel::Written::Done(n) => low(n),
+        mel::MelAnswer::Refused(r) => refused(r),
+        mel::MelAnswer::Done(n) => low(n),
     }
 }
 
@@ -132,7 +134,7 @@ pub extern "C" fn lfj_goal_text(bytes: &[u8], goal: u32) -> u64
 
 // The word of a verdict.
 fn verdict(v: Verdict) -> u64
-    ensures { λ w. ⌜ w ≡ W.checkWord (P.saying (verdictOf v)) ⌝ }
+    ensures { λ w. ⌜ w ≡ W.verdictWord (verdictOf v) ⌝ }
 {
     match v {
         Verdict::Same => 0,

@@ -3,11 +3,15 @@
 --                                                `by-test (λ z. goal of z) b (λ t. ..) (λ t. ..)`
 --     and-true, and-false, or-true, or-false     the parts of a test whose value is known; and-l, and-r, or-elim by parts
 --     and-i, or-l, or-r, implies-in              tests put together
---     not-true, not-false, not-out, is-false     a test and its opposite
+--     not-true, not-false, not-out, is-false, clash     a test and its opposite
+--     nor, nor-i, and-not, and-not-i             neither of two; not the one without the other
+--     cond-le, cond-mono                         a test as the number 1 or 0
 --     iff, beq-true, beq-false, beq-same, either, not-self     two tests against each other
 use mathlib.Core.Path.{_≡_, refl, sym, ap, ap₂, _∙_}
-use mathlib.Core.Bool.{Bool, true, false, not, _&&_, _||_, cond, true≢false, false≢true, Bool·beq}
+use mathlib.Core.Bool.{Bool, true, false, not, _&&_, _||_, cond, true≢false, false≢true, Bool·beq, Bool·not-not}
 use mathlib.Core.Logic.{_⊎_, inl, inr, ⊎-elim}
+use Prim.Native.Nat.{_≤_, zero-le}
+use native.Mathlib.Omega.{arith}
 use Rattle.logic.specs.Quantifiers.{implies}
 pub use borrow.Author.Tests.{not-true, not-false}
 
@@ -75,6 +79,37 @@ is-false p h = not-true p (not-i p h)
 pub not-self : (k : Bool) → k ≡ not k → ⊥
 not-self true p = true≢false p
 not-self false p = false≢true p
+
+pub not-same : (p q : Bool) → not p ≡ not q → p ≡ q
+not-same p q e = sym (Bool·not-not p) ∙ ap not e ∙ Bool·not-not q
+
+pub clash : {b : Bool} {A : Type 0} → b ≡ true → b ≡ false → A
+clash t f = absurd (true≢false (sym t ∙ f))
+
+-- neither of two
+pub nor : (s t : Bool) → not (s || t) ≡ true → (s ≡ false) × (t ≡ false)
+nor s t h = or-false s t (not-true (s || t) h)
+
+pub nor-i : (s t : Bool) → s ≡ false → t ≡ false → not (s || t) ≡ true
+nor-i s t a b = ap₂ (λ x y. not (x || y)) a b
+
+-- not the one without the other
+pub and-not : (p q : Bool) → p && not q ≡ false → p ≡ true → q ≡ true
+and-not true q e h = not-false q e
+and-not false q e h = absurd (false≢true h)
+
+pub and-not-i : (p q : Bool) → (p ≡ true → q ≡ true) → p && not q ≡ false
+and-not-i true q h = ap not (h refl)
+and-not-i false q h = refl
+
+-- ---- a test as a number
+pub cond-mono : (p q : Bool) → (p ≡ true → q ≡ true) → cond p 1 0 ≤ cond q 1 0
+cond-mono true true h = omega arith
+cond-mono true false h = absurd (false≢true (h refl))
+cond-mono false q h = zero-le
+
+pub cond-le : (b : Bool) → cond b 1 0 ≤ 1
+cond-le b = cond-mono b true (λ _. refl)
 
 -- ---- if .. then
 pub implies-in : (p q : Bool) → (p ≡ true → q ≡ true) → implies p q ≡ true

@@ -1,1 +1,2 @@
 pub mod Quantifiers
+pub mod Table

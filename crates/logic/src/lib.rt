@@ -1,1 +1,1 @@
-// Truth values and bounded quantifiers: definitions in specs/, laws in proofs/.
+// Truth values, bounded quantifiers, and whole arrays as tables: definitions in specs/, laws in proofs/.

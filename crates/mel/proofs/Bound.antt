@@ -1,29 +1,33 @@
 -- A bound on the length of the annotation by the number of goals n and of variables v: n * 15 * (v + v * v) + 8 * n. A buffer as long as that takes every
 -- such text, so it is written without being measured.
-use mathlib.Core.Path.{_≡_, sym, ap, _∙_}
-use mathlib.Core.Logic.{⊎-elim}
+use mathlib.Core.Path.{_≡_, sym, ap, _∙_, subst}
+use mathlib.Core.Logic.{dite}
 use mathlib.Core.Bool.{Bool, true, false, cond}
 use mathlib.Core.List.{List, [], _∷_, map}
 use Prim.Native.Nat.{ℕ, zero, suc, _+_, _-_, _*_, _≤_, _<_, _^_, zero-le, suc-le-suc}
 use native.Mathlib.Nat.{le-step, suc-mul, mul-le-mul-right}
+use native.Mathlib.Decide.{ℕ-discrete}
 use native.Mathlib.Omega.{arith}
-use lib.ListN.{length, length-append, length-map}
+use lib.Dec.{ltb}
+use lib.Pow.{pow-pos}
+use lib.ListN.{length, getD, length-append, length-map}
 use Rattle.logic.proofs.Bools.{and-l}
 use Rattle.sets.specs.Sets.{has, meet, union, without, below, count, membersFrom, members}
-use Rattle.sets.proofs.Laws.{has-meet, has-without}
+use Rattle.sets.proofs.Membership.{has-meet, has-without}
+use Rattle.sets.proofs.Builder.{union-lt}
 use Rattle.sets.proofs.Members.{count-members, no-more}
-use Rattle.text.specs.Text.{nonEmpty}
-use Rattle.text.proofs.Laws.{decimal-length}
-use Rattle.stages.specs.Mel.{Ground, Indep, goal, start, checks}
-use Rattle.stages.specs.Masks.{given, once, twice, goalWith, candidates, partners}
-use Rattle.stages.proofs.Words.{occurs-out, occurs-in, shared-out}
-use Rattle.stages.proofs.Masks.{has-once, has-twice}
-use Rattle.stages.proofs.Stages.{by-stages, start-falls}
-use Rattle.checks.specs.Texts.{pairsOf}
-use Rattle.stage_texts.specs.Texts.{groundSet, pairSet, checksText, stageText, stagesText, melText}
-use Rattle.stage_texts.proofs.Whole.{checks-masks, stages-one, stages-more, stage-parts, stage-one}
-use Rattle.stage_texts.proofs.Room.{same-or}
-use Rattle.mel.proofs.Length.{checks-length, goals-bound, arrow-length, none-text, mel-text}
+use Rattle.buffer.specs.Text.{nonEmpty}
+use Rattle.buffer.proofs.Decimal.{decimal-length}
+use Rattle.mel_stages.specs.Mel.{Ground, Indep, goal, start, checks}
+use Rattle.mel_stages.specs.Masks.{given, once, twice, goalWith, candidates, partners}
+use Rattle.mel_stages.proofs.Words.{occurs-out, occurs-in, shared-out}
+use Rattle.mel_stages.proofs.Masks.{has-once, has-twice}
+use Rattle.mel_stages.specs.Plain.{All}
+use Rattle.mel_stages.proofs.Stages.{all-append, by-stages, start-falls}
+use Rattle.mel_text.specs.CheckTexts.{pairsOf}
+use Rattle.mel_text.specs.StageTexts.{groundSet, pairSet, checksText, stageText, stagesText, melText}
+use Rattle.mel_text.proofs.Stages.{checks-masks, stages-one, stages-more, stage-parts, stage-one}
+use Rattle.mel.proofs.Length.{Short, below-hundred, all-short, checks-length, goals-bound, arrow-length, none-text, mel-text}
 
 -- a set has no more members than the width
 members-width : (w i m : ℕ) → length (membersFrom w i m) ≤ w
@@ -42,6 +46,16 @@ count-most w m h = omega (arith, count-members w m h, members-width w 0 m)
 pub count-width : (m : ℕ) → m < 2 ^ 64 → count m ≤ 64
 count-width m h = count-most 64 m h
 
+-- the variables of goals whose sets fit a word
+pub once-lt : (w : ℕ) (sets : List ℕ) → ((i : ℕ) → getD sets i 0 < 2 ^ w) → (p q : ℕ) → once sets p q < 2 ^ w
+unfolding once goal
+once-lt w sets h p zero = pow-pos w
+once-lt w sets h p (suc q) = go (ltb p (suc q)) (once-lt w sets h p q)
+  where
+    go : (b : Bool) → once sets p q < 2 ^ w → cond b (union (once sets p q) (getD sets (suc q - 1) 0)) (once sets p q) < 2 ^ w
+    go true l = union-lt w (once sets p q) (getD sets (suc q - 1) 0) l (h (suc q - 1))
+    go false l = l
+
 left-of : (a b i : ℕ) → has (without a b) i ≡ true → has a i ≡ true
 left-of a b i e = and-l (has a i) _ (sym (has-without a b i) ∙ e)
 
@@ -57,7 +71,7 @@ square v h = mul-le-mul-right v h
 pub product : (n c : ℕ) → n ≤ 32 → n * c ≤ 32 * c
 product n c h = mul-le-mul-right c h
 
-module _ (w head : ℕ) (sets grounds rows : List ℕ) (n : ℕ) where
+module _ (w head : ℕ) (sets grounds listed : List ℕ) (n : ℕ) where
   -- the variables of the goals, and how many they are
   abbrev vars : ℕ
   vars = once sets 0 n
@@ -85,70 +99,87 @@ module _ (w head : ℕ) (sets grounds rows : List ℕ) (n : ℕ) where
       let both = left-of (meet (once sets p q) met) (twice sets p q) x (left-of (without (meet (once sets p q) met) (twice sets p q)) (goal grounds (p + 1)) x e) in
       once-in p q x h (and-l (has (once sets p q) x) (has met x) (sym (has-meet (once sets p q) met x) ∙ both))
 
-  pairs-count : (p q k : ℕ) → ((y : ℕ) → has k y ≡ true → has vars y ≡ true) → (l : List ℕ) → length (pairsOf w sets rows p q k l) ≤ length l * v
+  pairs-count : (p q k : ℕ) → ((y : ℕ) → has k y ≡ true → has vars y ≡ true) → (l : List ℕ) → length (pairsOf w sets listed p q k l) ≤ length l * v
   unfolding pairsOf
   pairs-count p q k h [] = zero-le
   pairs-count p q k h (x ∷ l) =
-      let others = partners sets p q k (goal rows (x + 1)) x in
+      let others = partners sets p q k (getD listed x 0) x in
       omega (
         arith,
-        length-append (map (Indep x) (members w others)) (pairsOf w sets rows p q k l),
+        length-append (map (Indep x) (members w others)) (pairsOf w sets listed p q k l),
         length-map (members w others) (Indep x),
-        no-more w 0 others vars (λ y e. h y (partners-in sets p q k (goal rows (x + 1)) x y e)),
+        no-more w 0 others vars (λ y e. h y (partners-in sets p q k (getD listed x 0) x y e)),
         pairs-count p q k h l,
         suc-mul (length l) v,
       )
 
-  checks-count : (p q : ℕ) → q ≤ n → length (checks (given w head sets grounds rows) p q) ≤ v + v * v
+  checks-count : (p q : ℕ) → q ≤ n → length (checks (given w head sets grounds listed) p q) ≤ v + v * v
   checks-count p q h =
       let g = members w (groundSet sets grounds p q) in
       let k = pairSet head sets grounds p q in
       omega (
         arith,
-        ap length (checks-masks w head sets grounds rows p q),
-        length-append (map Ground g) (pairsOf w sets rows p q k (members w k)),
+        ap length (checks-masks w head sets grounds listed p q),
+        length-append (map Ground g) (pairsOf w sets listed p q k (members w k)),
         length-map g Ground,
         no-more w 0 (groundSet sets grounds p q) vars (λ x e. gset-in p q x h e),
         pairs-count p q k (λ y e. kset-in p q y h e) (members w k),
         mul-le-mul-right v (no-more w 0 k vars (λ x e. kset-in p q x h e)),
       )
 
-  checks-most : (p q : ℕ) → q ≤ n → length (checksText w head sets grounds rows false p q) ≤ 15 * (v + v * v)
-  unfolding checksText
-  checks-most p q h = omega (arith, checks-length false (checks (given w head sets grounds rows) p q), checks-count p q h)
+  pairs-short : w ≤ 100 → (p q k : ℕ) (l : List ℕ) → All (λ x. x < 100) l → All Short (pairsOf w sets listed p q k l)
+  unfolding pairsOf
+  pairs-short u p q k [] a = tt
+  pairs-short u p q k (x ∷ l) a =
+      let others = partners sets p q k (getD listed x 0) x in
+      all-append Short (map (Indep x) (members w others)) (pairsOf w sets listed p q k l)
+      (all-short (Indep x) (λ y h. (a .0, h)) (members w others) (below-hundred w 0 others (omega arith))) (pairs-short u p q k l (a .1))
 
-  stage-most : (p q : ℕ) → q ≤ n → length (stageText w head sets grounds rows p q) ≤ 15 * (v + v * v) + 3 * (q - p) + 4
-  stage-most p q h =
-      ⊎-elim
-      (λ e. omega (arith, ap length (stage-one w head sets grounds rows p q e), decimal-length q))
-      (λ d. omega (arith, simp length-append at (ap length (stage-parts w head sets grounds rows p q d)), checks-most p q h, goals-bound p q, arrow-length (nonEmpty (checksText w head sets grounds rows false p q))))
-      (same-or q (p + 1))
+  -- with variables and goals of at most two digits
+  module _ (narrow : w ≤ 100) (few : n < 100) where
+    checks-short : (p q : ℕ) → All Short (checks (given w head sets grounds listed) p q)
+    checks-short p q =
+        let g = groundSet sets grounds p q in
+        let k = pairSet head sets grounds p q in
+        subst (All Short) (sym (checks-masks w head sets grounds listed p q))
+        (all-append Short (map Ground (members w g)) (pairsOf w sets listed p q k (members w k))
+        (all-short Ground (λ x h. h) (members w g) (below-hundred w 0 g (omega arith)))
+        (pairs-short narrow p q k (members w k) (below-hundred w 0 k (omega arith))))
 
-  stages-most : (q : ℕ) → q ≤ n → length (stagesText w head sets grounds rows q) ≤ q * (15 * (v + v * v)) + 8 * q
-  stages-most =
-      by-stages w head sets (λ q. q ≤ n → length (stagesText w head sets grounds rows q) ≤ q * (15 * (v + v * v)) + 8 * q) (λ h. omega (arith, none-text w head sets grounds rows)) (λ q l ih h.
-      let p = start w head sets q in
-      let c = 15 * (v + v * v) in
-      let f : suc p ≤ q = start-falls w head sets q l in
-      ⊎-elim
-      (λ e. omega (arith, f, ap length (stages-one w head sets grounds rows q l e), stage-most p q h, suc-mul p c, mul-le-mul-right c f))
-      (λ d. omega (arith, f, ih (omega (arith, f, h)), simp length-append at (ap length (stages-more w head sets grounds rows q l d)), stage-most p q h, suc-mul p c, mul-le-mul-right c f))
-      (same-or p 0))
+    checks-most : (p q : ℕ) → q ≤ n → length (checksText w head sets grounds listed false p q) ≤ 15 * (v + v * v)
+    unfolding checksText
+    checks-most p q h = omega (arith, checks-length false (checks (given w head sets grounds listed) p q) (checks-short p q), checks-count p q h)
+
+    stage-most : (p q : ℕ) → q ≤ n → length (stageText w head sets grounds listed p q) ≤ 15 * (v + v * v) + 3 * (q - p) + 4
+    stage-most p q h =
+        dite (ℕ-discrete q (p + 1))
+        (λ e. omega (arith, ap length (stage-one w head sets grounds listed p q e), decimal-length 1 q (omega (arith, few, h))))
+        (λ d. omega (arith, simp length-append at (ap length (stage-parts w head sets grounds listed p q d)), checks-most p q h, goals-bound p q (omega (arith, few, h)), arrow-length (nonEmpty (checksText w head sets grounds listed false p q))))
+
+    stages-most : (q : ℕ) → q ≤ n → length (stagesText w head sets grounds listed q) ≤ q * (15 * (v + v * v)) + 8 * q
+    stages-most =
+        by-stages w head sets (λ q. q ≤ n → length (stagesText w head sets grounds listed q) ≤ q * (15 * (v + v * v)) + 8 * q) (λ h. omega (arith, none-text w head sets grounds listed)) (λ q l ih h.
+        let p = start w head sets q in
+        let c = 15 * (v + v * v) in
+        let f : suc p ≤ q = start-falls w head sets q l in
+        dite (ℕ-discrete p 0)
+        (λ e. omega (arith, f, ap length (stages-one w head sets grounds listed q l e), stage-most p q h, suc-mul p c, mul-le-mul-right c f))
+        (λ d. omega (arith, f, ih (omega (arith, f, h)), simp length-append at (ap length (stages-more w head sets grounds listed q l d)), stage-most p q h, suc-mul p c, mul-le-mul-right c f)))
 
   -- a place in the text fits a machine's number
-  pub text-fits : w ≤ 64 → n ≤ 32 → length (stagesText w head sets grounds rows n) < 2 ^ 63
+  pub text-fits : w ≤ 64 → n ≤ 32 → length (stagesText w head sets grounds listed n) < 2 ^ 63
   text-fits e h =
       let l : v ≤ 64 = omega (arith, e, members-width w 0 vars) in
-      omega (arith, l, stages-most n (omega arith), square v l, product n (15 * (v + v * v)) h)
+      omega (arith, l, stages-most (omega arith) (omega arith) n (omega arith), square v l, product n (15 * (v + v * v)) h)
 
 -- the whole text, with the variables counted by the code
-whole-most : (w head : ℕ) (sets grounds rows : List ℕ) (m : ℕ) → m < 2 ^ w → m ≡ once sets 0 (length sets)
-    → length (melText w head sets grounds rows) ≤ length sets * (15 * (count m + count m * count m)) + 8 * length sets
-whole-most w head sets grounds rows m h e =
+whole-most : (w head : ℕ) (sets grounds listed : List ℕ) (m : ℕ) → m < 2 ^ w → m ≡ once sets 0 (length sets) → w ≤ 100 → length sets < 100
+    → length (melText w head sets grounds listed) ≤ length sets * (15 * (count m + count m * count m)) + 8 * length sets
+whole-most w head sets grounds listed m h e u l =
     let c : count m ≡ length (members w (once sets 0 (length sets))) = count-members w m h ∙ ap (λ (k : ℕ). length (members w k)) e in
-    rw c (omega (arith, ap length (mel-text w head sets grounds rows), stages-most w head sets grounds rows (length sets) (length sets) (omega arith)))
+    rw c (omega (arith, ap length (mel-text w head sets grounds listed), stages-most w head sets grounds listed (length sets) u l (length sets) (omega arith)))
 
 -- with 64 variables
-pub text-most : (head : ℕ) (sets grounds rows : List ℕ) (m : ℕ) → m < 2 ^ 64 → m ≡ once sets 0 (length sets)
-    → length (melText 64 head sets grounds rows) ≤ length sets * (15 * (count m + count m * count m)) + 8 * length sets
-text-most head sets grounds rows m h e = whole-most 64 head sets grounds rows m h e
+pub text-most : (head : ℕ) (sets grounds listed : List ℕ) (m : ℕ) → m < 2 ^ 64 → m ≡ once sets 0 (length sets) → length sets < 100
+    → length (melText 64 head sets grounds listed) ≤ length sets * (15 * (count m + count m * count m)) + 8 * length sets
+text-most head sets grounds listed m h e l = whole-most 64 head sets grounds listed m h e (omega arith) l

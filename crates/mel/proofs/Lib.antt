@@ -1,6 +1,6 @@
 pub mod Length
 pub mod Bound
 pub mod Theorems
-pub mod Answers
+pub mod Outcomes
 pub mod Record
-pub mod Some
+pub mod Short

@@ -1,22 +1,22 @@
--- T10: what the definition of the annotation gives, in the words of `Plain` of crate stages. For any width, any clause and any number of goals; at the end of the operation on a record.
-use mathlib.Core.Path.{_≡_, sym, _∙_}
+-- T10: what the definition of the annotation gives, in the words of `Plain` of `mel_stages`. For any width, any clause and any number of goals; at the end of the operation on a record.
+use mathlib.Core.Path.{_≡_, refl, sym, ap, _∙_}
 use mathlib.Core.Logic.{_↔_}
 use mathlib.Core.List.{List, _++_}
 use Prim.Native.Nat.{ℕ, _<_, _≤_}
 use native.Mathlib.Omega.{arith}
 use lib.ListN.{length, drop}
-use Rattle.reading.specs.declared.Reading.the-variants.{Fine}
-use Rattle.reading.specs.Reading.{reading}
 use Rattle.record.specs.WellFormed.{WellFormed}
 use Rattle.record.proofs.WellFormed.{well-formed-fine}
-use Rattle.stages.specs.Mel.{Clause, Ground, Indep, goalsFrom, stages, checks}
-use Rattle.stages.specs.Plain.{All, Among, goalsOf, Sound, Grounded, Separate, Ascending}
-use Rattle.stages.proofs.Stages.{partition, stages-sound}
-use Rattle.text.specs.Lent.{stored}
-use Rattle.text.proofs.Lent.{fits-le, fits-lt, keeps}
-use Rattle.mel.specs.Annotation.{mel, refused, done, answerTo, melAnswer, melBuffer}
-use Rattle.mel.proofs.Answers.{fine-values, fine-buffer}
-use Rattle.stages.proofs.Checks.{grounds-listed, listed-grounds, indeps-listed, listed-indeps, checks-ascend}
+use Rattle.mel_stages.specs.Mel.{Facts, Ground, Indep, goalsFrom, stages, checks}
+use Rattle.mel_stages.specs.Plain.{All, Among, goalsOf, Sound, Grounded, Separate, Ascending}
+use Rattle.mel_stages.proofs.Stages.{partition, stages-sound}
+use Rattle.buffer.specs.Lent.{stored}
+use Rattle.buffer.proofs.Lent.{fits-le}
+use Rattle.record_rules.specs.Outcome.{Outcome, refused, accepted, sizeIn, bufferAfter}
+use Rattle.record_rules.proofs.Outcomes.{size-fits, size-short, buffer-short}
+use Rattle.mel.specs.Annotation.{mel, melOutcome, melAnswer, melBuffer}
+use Rattle.mel.proofs.Outcomes.{mel-fine}
+use Rattle.mel_stages.proofs.Checks.{grounds-listed, listed-grounds, indeps-listed, listed-indeps, checks-ascend}
 
 module _ (w head : ℕ) (sets : List ℕ) (n : ℕ) where
   -- The stages partition the goals 1 to n in clause order,
@@ -27,7 +27,7 @@ module _ (w head : ℕ) (sets : List ℕ) (n : ℕ) where
   pub stages-are-sound : All (Sound w head sets) (stages w head sets n)
   stages-are-sound = stages-sound w head sets n
 
-module _ (c : Clause) (p q : ℕ) where
+module _ (c : Facts) (p q : ℕ) where
   -- The ground checks left are the variables that two goals of the stage hold and that are not known ground,
   pub ground-checks : (x : ℕ) → Among (Ground x) (checks c p q) ↔ ((x < c .width) × Grounded c p q x)
   ground-checks x = (λ h. grounds-listed c p q x h, λ h. listed-grounds c p q x (h .0) (h .1))
@@ -44,13 +44,18 @@ module _ (c : Clause) (p q : ℕ) where
 
 -- The length named by 12 is the text's. For every well-formed record a shorter buffer is refused with it and stays as it was, and a buffer of that length or more begins with the text.
 module _ (b buf : List ℕ) (w : WellFormed b) where
-  e : reading b ≡ Fine
-  e = well-formed-fine b w
+  e : melOutcome b ≡ accepted (mel b)
+  e = mel-fine b (well-formed-fine b w)
 
   pub length-named : length buf < length (mel b) → (melAnswer b buf ≡ refused 12 (length (mel b))) × (melBuffer b buf ≡ buf)
-  unfolding answerTo
-  length-named h = (sym (fine-values b buf e) ∙ rw (fits-lt (mel b) buf h), sym (fine-buffer b buf e) ∙ sym (keeps (mel b) buf h))
+  length-named h = (
+    ap (λ (o : Outcome (List ℕ)). sizeIn o buf) e ∙ sym (size-short (mel b) buf refl h),
+    ap (λ (o : Outcome (List ℕ)). bufferAfter o buf) e ∙ sym (buffer-short (mel b) buf h),
+  )
 
-  pub length-enough : length (mel b) ≤ length buf → (melAnswer b buf ≡ done (length (mel b))) × (melBuffer b buf ≡ mel b ++ drop (length (mel b)) buf)
-  unfolding answerTo stored
-  length-enough h = (sym (fine-values b buf e) ∙ rw (fits-le (mel b) buf h), sym (fine-buffer b buf e) ∙ rw (fits-le (mel b) buf h))
+  pub length-enough : length (mel b) ≤ length buf → (melAnswer b buf ≡ accepted (length (mel b))) × (melBuffer b buf ≡ mel b ++ drop (length (mel b)) buf)
+  unfolding stored
+  length-enough h = (
+    ap (λ (o : Outcome (List ℕ)). sizeIn o buf) e ∙ sym (size-fits (mel b) buf refl h),
+    ap (λ (o : Outcome (List ℕ)). bufferAfter o buf) e ∙ rw (fits-le (mel b) buf h),
+  )

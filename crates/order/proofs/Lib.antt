@@ -1,3 +1,3 @@
 pub mod Waits
-pub mod Record
+pub mod Decoded
 pub mod Theorems

@@ -8,9 +8,9 @@ use native.Mathlib.Omega.{arith}
 use lib.Dec.{leb, ltb}
 use borrow.Author.Tests.{leb-true, ltb-true}
 use Rattle.logic.proofs.Bools.{iff, and-l, and-r}
-use Rattle.fields.specs.Facts.{groundAt, freeAt}
-use Rattle.fields.specs.Fields.{goalCount, goalSet, listed}
-use Rattle.judge.specs.Independence.{independent}
+use Rattle.record_fields.specs.Facts.{groundAt, freeAt}
+use Rattle.record_fields.specs.Fields.{goalCount, goalSet, listed}
+use Rattle.independence.specs.Independence.{independent}
 use Rattle.expression.specs.Expr.{Goals, Order}
 use Rattle.graph.specs.Closure.{Chain, wait, link, closed}
 use Rattle.graph.proofs.Closure.{closed-chain, chain-closed}

@@ -1,44 +1,46 @@
--- The waits from the decoded clause: the goals' variable sets as an array, goal i + 1 at place i, and the listed pairs as rows. The variables are those below w.
+-- The waits and the order of a decoded clause: the goals' variable sets and the variables known ground at each goal as arrays, goal i + 1 at place i, and the
+-- listed pairs as rows. The variables are those below w.
 use mathlib.Core.Bool.{Bool, false, _&&_, cond}
 use mathlib.Core.List.{List}
 use Prim.Native.Nat.{ℕ, zero, suc, _+_}
 use lib.Dec.{ltb}
 use lib.ListN.{getD}
 use Rattle.sets.specs.Sets.{union, single, setOf}
-use Rattle.arrays.specs.Table.{table}
-use Rattle.judge.specs.ByRows.{waitsBy}
-use Rattle.judge.specs.Ties.{tiesOf, tied}
-use Rattle.judge.specs.Halves.{halves, whole}
-use Rattle.judge.specs.declared.Halves.{Halves}
-use Rattle.fields.specs.Fields.{goalCount}
+use Rattle.logic.specs.Table.{table}
+use Rattle.independence.specs.ByRows.{waitsBy}
+use Rattle.independence.specs.Ties.{tiesOf, tied}
+use Rattle.independence.specs.Halves.{halves, whole}
+use Rattle.independence.specs.declared.Halves.{Halves}
+use Rattle.record_fields.specs.Fields.{goalCount}
+use Rattle.graph.specs.Closure.{closing}
 use Rattle.graph.specs.Graph.{graphOf}
 use Rattle.graph.specs.declared.Graph.{Graph}
 use Rattle.order.specs.Order.{waits}
 
--- goal j + 1 waits for the earlier goal i + 1
-abbrev pub waitsAt : ℕ → ℕ → ℕ → List ℕ → List ℕ → ℕ → ℕ → Bool
-waitsAt w ground free sets listed i j = ltb i j && waitsBy ground free listed w (getD sets i 0) (getD sets j 0)
+-- goal j + 1 waits for the earlier goal i + 1, by the facts that hold at the earlier one
+abbrev pub waitsAt : ℕ → ℕ → List ℕ → List ℕ → List ℕ → ℕ → ℕ → Bool
+waitsAt w free sets grounds listed i j = ltb i j && waitsBy (getD grounds i 0) free listed w (getD sets i 0) (getD sets j 0)
 
 -- goal j waits for goal i; 0 is no goal
-abbrev pub waitsIn : ℕ → ℕ → ℕ → List ℕ → List ℕ → ℕ → ℕ → Bool
-waitsIn w ground free sets listed zero j = false
-waitsIn w ground free sets listed (suc i) zero = false
-waitsIn w ground free sets listed (suc i) (suc j) = waitsAt w ground free sets listed i j
+abbrev pub waitsIn : ℕ → ℕ → List ℕ → List ℕ → List ℕ → ℕ → ℕ → Bool
+waitsIn w free sets grounds listed zero j = false
+waitsIn w free sets grounds listed (suc i) zero = false
+waitsIn w free sets grounds listed (suc i) (suc j) = waitsAt w free sets grounds listed i j
 
 -- those of the first n goals that wait for goal i + 1
-unfoldable pub waitRow : ℕ → ℕ → ℕ → List ℕ → List ℕ → ℕ → ℕ → ℕ
-waitRow w ground free sets listed n i = setOf n (λ j. waitsAt w ground free sets listed i j)
+unfoldable pub waitRow : ℕ → ℕ → List ℕ → List ℕ → List ℕ → ℕ → ℕ → ℕ
+waitRow w free sets grounds listed n i = setOf n (λ j. waitsAt w free sets grounds listed i j)
 
 -- the ties of goal i + 1, in halves of h variables
-abbrev pub tiesAt : ℕ → ℕ → ℕ → List ℕ → List ℕ → ℕ → Halves
-tiesAt h w ground sets listed i = halves h (tiesOf ground 0 listed w (getD sets i 0))
+abbrev pub tiesAt : ℕ → ℕ → List ℕ → List ℕ → List ℕ → ℕ → Halves
+tiesAt h w sets grounds listed i = halves h (tiesOf (getD grounds i 0) 0 listed w (getD sets i 0))
 
 -- the low halves of the ties of the first n goals, of m at the most; and the high ones
-unfoldable pub lowTies : ℕ → ℕ → ℕ → ℕ → ℕ → List ℕ → List ℕ → List ℕ
-lowTies m h w n ground sets listed = table m n (λ i. tiesAt h w ground sets listed i .low)
+unfoldable pub lowTies : ℕ → ℕ → ℕ → ℕ → List ℕ → List ℕ → List ℕ → List ℕ
+lowTies m h w n sets grounds listed = table m n (λ i. tiesAt h w sets grounds listed i .low)
 
-unfoldable pub highTies : ℕ → ℕ → ℕ → ℕ → ℕ → List ℕ → List ℕ → List ℕ
-highTies m h w n ground sets listed = table m n (λ i. tiesAt h w ground sets listed i .high)
+unfoldable pub highTies : ℕ → ℕ → ℕ → ℕ → List ℕ → List ℕ → List ℕ → List ℕ
+highTies m h w n sets grounds listed = table m n (λ i. tiesAt h w sets grounds listed i .high)
 
 -- the ties of goal i + 1 whole, from the halves of all
 abbrev pub tiesIn : ℕ → List ℕ → List ℕ → ℕ → ℕ
@@ -56,8 +58,12 @@ abbrev pub putTwo : ℕ → List ℕ → (ℕ → ℕ) → ℕ → ℕ → ℕ �
 putTwo m rows ties later next j = putLater m (putLater m rows ties later j) ties next (j + 1)
 
 -- the graph of the waits of n goals
-unfoldable pub waitRows : ℕ → ℕ → ℕ → List ℕ → List ℕ → Graph
-waitRows w n ground sets listed = graphOf n (waitsIn w ground 0 sets listed)
+unfoldable pub waitRows : ℕ → ℕ → List ℕ → List ℕ → List ℕ → Graph
+waitRows w n sets grounds listed = graphOf n (waitsIn w 0 sets grounds listed)
+
+-- their order
+unfoldable pub orderRows : ℕ → ℕ → List ℕ → List ℕ → List ℕ → Graph
+orderRows w n sets grounds listed = closing (waitRows w n sets grounds listed)
 
 -- the waits of a record as a graph
 unfoldable pub waiting : List ℕ → Graph

@@ -5,10 +5,10 @@ use Prim.Native.Nat.{ℕ}
 use lib.ListN.{take}
 use Rattle.logic.specs.Quantifiers.{every, someBelow}
 use Rattle.sets.specs.Sets.{has, setOf}
-use Rattle.arrays.specs.Table.{tableFrom}
+use Rattle.logic.specs.Table.{tableFrom}
 use Rattle.graph.specs.Graph.{goalsOf, rowsOf}
-use Rattle.fields.specs.Fields.{number, placeAfter, goalSet, listed}
-use Rattle.judge.specs.Independence.{knownIndependent, independent}
+use Rattle.record_fields.specs.Fields.{number, placeAfter, goalSet, listed}
+use Rattle.independence.specs.Independence.{knownIndependent, independent}
 use Rattle.order.specs.Order.{waits, before, order}
 use Rattle.order.specs.Arrays.{waiting}
 

@@ -3,12 +3,13 @@ use mathlib.Core.Bool.{Bool, not, _&&_}
 use mathlib.Core.List.{List}
 use Prim.Native.Nat.{ℕ}
 use lib.Dec.{leb, ltb}
-use Rattle.fields.specs.Facts.{groundAt, freeAt}
-use Rattle.fields.specs.Fields.{goalCount, goalSet, listed}
+use Rattle.record_fields.specs.Facts.{groundAt, freeAt}
+use Rattle.record_fields.specs.Fields.{goalCount, goalSet, listed}
 use Rattle.graph.specs.Closure.{Chain, closed}
 use Rattle.graph.specs.Graph.{graphOf}
 use Rattle.graph.specs.declared.Graph.{Graph}
-use Rattle.judge.specs.Independence.{independent}
+use Rattle.independence.specs.Independence.{independent}
+use Rattle.sets.specs.Sets.{variableLimit}
 
 -- the goals i and j are among the goals 1 to n, and i is the earlier
 abbrev pub earlier : ℕ → ℕ → ℕ → Bool
@@ -16,7 +17,7 @@ earlier n i j = leb 1 i && ltb i j && leb j n
 
 -- 01: "Otherwise the later goal waits for the earlier one": goal j waits for the earlier goal i, by the facts that hold at goal i
 unfoldable pub waits : List ℕ → ℕ → ℕ → Bool
-waits b i j = earlier (goalCount b) i j && not (independent (groundAt b i) (freeAt b i) (listed b) 64 (goalSet b i) (goalSet b j))
+waits b i j = earlier (goalCount b) i j && not (independent (groundAt b i) (freeAt b i) (listed b) variableLimit (goalSet b i) (goalSet b j))
 
 -- 01: "Goal i is before goal j if a chain of waits leads from i to j"
 abbrev pub Before : List ℕ → ℕ → ℕ → Type 0

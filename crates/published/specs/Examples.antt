@@ -5,6 +5,7 @@ use mathlib.Core.List.{List, [], _∷_}
 use mathlib.Core.Option.{Option, none, some}
 use Prim.Native.Nat.{ℕ}
 use lib.Dec.{eqb}
+use Rattle.buffer.specs.Decimal.{decimal, decimalTo}
 use Rattle.expression.specs.Expr.{goal, join, one, more}
 use Rattle.expression.specs.Text.{text}
 use Rattle.expression.specs.Restore.{restore}
@@ -64,6 +65,7 @@ examples
     × (firstN graphB 5 ≡ some (record { a = 1; b = 3; c = 2; d = 5 }))
     × (figure1 graphC 4 ≡ false)
     × (firstN graphC 4 ≡ some (record { a = 3; b = 1; c = 4; d = 2 }))
+unfolding decimal decimalTo
 examples = (refl, refl, refl, refl, refl, refl, refl, refl, refl)
 
 -- Nested sets, ((1,3)&2),4; a vertex of P in no set, 1&(2,3); no vertex waits, 1&2&3.
@@ -79,4 +81,5 @@ others
     × (text (restore (udgExpr (edges ((2, 3) ∷ [])) 3)) ≡ 49 ∷ 38 ∷ 40 ∷ 50 ∷ 44 ∷ 51 ∷ 41 ∷ [])
     × (figure1 (edges []) 3 ≡ true)
     × (text (udgExpr (edges []) 3) ≡ 49 ∷ 38 ∷ 50 ∷ 38 ∷ 51 ∷ [])
+unfolding decimal decimalTo
 others = (refl, refl, refl, refl, refl, refl, refl, refl)

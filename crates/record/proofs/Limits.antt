@@ -6,11 +6,11 @@ use native.Mathlib.Nat.{lt-of-lt-of-le}
 use native.Mathlib.Omega.{arith}
 use lib.ListN.{length}
 use lib.Pow.{pow-mono}
-use Rattle.sets.proofs.Laws.{below-of, member-below}
+use Rattle.sets.proofs.Membership.{below-of, member-below}
 use Rattle.sets.proofs.Builder.{members-lt}
-use Rattle.fields.specs.Fields.{byte, goalCount, varCount, pairCount, headSet, groundSet, goalSet, textPlace, textLength, placeAfter, pairAt}
-use Rattle.reading.specs.declared.Reading.the-variants.{Fine}
-use Rattle.reading.specs.Reading.{reading}
+use Rattle.record_fields.specs.Fields.{byte, goalCount, varCount, pairCount, headSet, groundSet, goalSet, textPlace, textLength, goalEnd, placeAfter, pairAt}
+use Rattle.record_rules.specs.declared.Reading.the-variants.{Fine}
+use Rattle.record_rules.specs.Reading.{reading}
 use Rattle.record.specs.WellFormed.{WellFormedGoal, WellFormed}
 use Rattle.record.specs.Limits.{Bytes, longest}
 use Rattle.record.proofs.WellFormed.{fine-well-formed}
@@ -69,13 +69,21 @@ module _ (b : List ℕ) (w : WellFormed b) where
   pub higher-below : (k : ℕ) → k < pairCount b → byte b (pairAt b k + 1) < varCount b
   higher-below k h = w .pairs k h .pair-below
 
+  -- ---- one goal after the other
+
+  next-goal : (g : ℕ) → g < goalCount b → WellFormedGoal b (placeAfter b g)
+  next-goal g h =
+      let e : suc g - 1 ≡ g = omega arith in
+      subst (λ (x : ℕ). WellFormedGoal b (placeAfter b x)) e (w .goals (suc g) (omega arith) h)
+
+  -- the goal after the first g is there
+  pub goal-there : (g : ℕ) → g < goalCount b → goalEnd b (placeAfter b g) ≤ length b
+  goal-there g h = next-goal g h .text-whole
+
   -- ---- the length
 
   pub place-limit : (g : ℕ) → g ≤ goalCount b → placeAfter b g ≤ 24 + 49 * g
-  place-limit g h =
-      places-limit b g (λ k l.
-      let e : suc k - 1 ≡ k = omega arith in
-      subst (λ (x : ℕ). WellFormedGoal b (placeAfter b x)) e (w .goals (suc k) (omega arith) (omega arith)))
+  place-limit g h = places-limit b g (λ k l. next-goal k (omega arith))
 
   pub length-limit : Bytes b → length b ≤ longest
   length-limit p = omega (arith, place-limit (goalCount b) (omega arith), w .goals-to, w .nothing-left, p 7)

@@ -8,12 +8,12 @@ use native.Mathlib.Omega.{arith}
 use lib.Dec.{leb}
 use lib.ListN.{length}
 use borrow.Author.Tests.{leb-true, leb-false}
-use Rattle.refusal.specs.declared.Refusal.{Refusal}
-use Rattle.fields.specs.Fields.{byte, goalCount, pairCount, textAt, textLengthAt, goalEnd, placeAfter, pairsPlace, pairAt}
-use Rattle.reading.specs.declared.Reading.{Reading}
-use Rattle.reading.specs.declared.Reading.the-variants.{Fine, Refused}
-use Rattle.reading.specs.Reading.{_must_else_place_, between, firstBad, textLimit, counts, header, goal, goals, pair, pairs, ending, readingOf, versionOne, reading}
-use Rattle.reading.proofs.Must.{must-fine, must-holds, between-high}
+use Rattle.record_rules.specs.declared.Refusal.{Refusal}
+use Rattle.record_fields.specs.Fields.{byte, goalCount, pairCount, textAt, textLengthAt, goalEnd, placeAfter, pairsPlace, pairAt}
+use Rattle.record_rules.specs.declared.Reading.{Reading}
+use Rattle.record_rules.specs.declared.Reading.the-variants.{Fine, Refused}
+use Rattle.record_rules.specs.Reading.{_must_else_place_, between, firstBad, textLimit, counts, header, goal, goals, pair, pairs, ending, readingOf, versionOne, reading}
+use Rattle.record_rules.proofs.Must.{must-fine, must-holds, between-high}
 use Rattle.record.specs.Limits.{Bytes, longest}
 use Rattle.record.proofs.WellFormed.{goals-fine, goals-out, pairs-fine}
 use Rattle.record.proofs.Limits.{places-limit}

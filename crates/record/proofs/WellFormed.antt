@@ -10,13 +10,13 @@ use lib.Dec.{ltb}
 use borrow.Author.Tests.{ltb-true, lt-ltb, leb-true, le-leb, eqb-true, eq-eqb}
 use Rattle.logic.proofs.Bools.{and-l, and-r, and-i}
 use Rattle.sets.specs.Sets.{within}
-use Rattle.sets.proofs.Laws.{within-lt, lt-within, has-above, below-of, subset-has, has-subset}
-use Rattle.fields.specs.Fields.{byte, number, set, goalCount, varCount, pairCount, headSet, groundSet, textAt, textLengthAt, placeAfter, pairAt}
-use Rattle.reading.specs.declared.Reading.{Reading}
-use Rattle.reading.specs.declared.Reading.the-variants.{Fine}
-use Rattle.reading.specs.Reading.{counts, header, textLimit, goal, goals, ordered, ascends, pair, pairs, ending, readingOf, versionOne, reading}
-use Rattle.reading.proofs.Text.{text-good, good-text}
-use Rattle.reading.proofs.Must.{must-so, must-fine, must-holds, between-low, between-high, between-in}
+use Rattle.sets.proofs.Membership.{within-lt, lt-within, has-above, below-of, subset-has, has-subset}
+use Rattle.record_fields.specs.Fields.{byte, number, set, goalCount, varCount, pairCount, headSet, groundSet, textAt, textLengthAt, placeAfter, pairAt}
+use Rattle.record_rules.specs.declared.Reading.{Reading}
+use Rattle.record_rules.specs.declared.Reading.the-variants.{Fine}
+use Rattle.record_rules.specs.Reading.{counts, header, textLimit, goal, goals, ordered, ascends, pair, pairs, ending, readingOf, versionOne, reading}
+use Rattle.record_rules.proofs.Text.{text-good, good-text}
+use Rattle.record_rules.proofs.Must.{must-so, must-fine, must-holds, between-low, between-high, between-in}
 use Rattle.record.specs.WellFormed.{NoBitFrom, WellFormedGoal, WellFormedPair, WellFormed}
 
 no-bit : (v m : ℕ) → within v m ≡ true → NoBitFrom v m

@@ -5,9 +5,9 @@ use mathlib.Core.Bool.{true, false}
 use mathlib.Core.List.{List}
 use Prim.Native.Nat.{ℕ, suc, _+_, _≤_, _<_}
 use lib.ListN.{length}
-use Rattle.sets.specs.Sets.{has}
-use Rattle.fields.specs.Fields.{byte, number, set, mark, version, goalCount, varCount, pairCount, headSet, groundSet, textAt, textLengthAt, goalEnd, goalPlace, pairAt}
-use Rattle.reading.specs.Reading.{textLimit}
+use Rattle.sets.specs.Sets.{goalLimit, variableLimit, has}
+use Rattle.record_fields.specs.Fields.{byte, number, set, mark, version, goalCount, varCount, pairCount, headSet, groundSet, headerSize, textAt, textLengthAt, goalEnd, goalPlace, pairAt}
+use Rattle.record_rules.specs.Reading.{textLimit}
 
 -- a set without a bit at or above v
 abbrev pub NoBitFrom : ℕ → ℕ → Type 0
@@ -31,12 +31,12 @@ pub record WellFormedPair (b : List ℕ) (k : ℕ) : Type 0 where
   pub ascending : (j : ℕ) → k ≡ suc j → number b (pairAt b j) 2 < number b (pairAt b k) 2
 
 pub record WellFormed (b : List ℕ) : Type 0 where
-  pub header-whole : 24 ≤ length b
+  pub header-whole : headerSize ≤ length b
   pub marked : mark b ≡ 0x4C464A
   pub version-one : version b ≡ 1
   pub goals-from : 1 ≤ goalCount b
-  pub goals-to : goalCount b ≤ 32
-  pub vars-to : varCount b ≤ 64
+  pub goals-to : goalCount b ≤ goalLimit
+  pub vars-to : varCount b ≤ variableLimit
   pub head-below : NoBitFrom (varCount b) (headSet b)
   pub ground-inside : (x : ℕ) → has (groundSet b) x ≡ true → has (headSet b) x ≡ true
   pub goals : (g : ℕ) → 1 ≤ g → g ≤ goalCount b → WellFormedGoal b (goalPlace b g)

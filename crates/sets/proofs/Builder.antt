@@ -10,7 +10,7 @@ use lib.Pow.{pow-lt}
 use borrow.Author.Tests.{lt-ltb, le-ltb, ltb-true, eq-eqb, eqb-true}
 use Rattle.logic.proofs.Bools.{iff, and-l, and-r, and-i, or-elim, is-false}
 use Rattle.sets.specs.Sets.{has, union, meet, without, single, setOf}
-use Rattle.sets.proofs.Laws.{has-union, has-meet, has-without, has-single, has-empty, member-below, below-of, ext}
+use Rattle.sets.proofs.Membership.{has-union, has-meet, has-without, has-single, has-empty, member-below, below-of, ext}
 
 -- ---- bounds
 

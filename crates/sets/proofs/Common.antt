@@ -1,6 +1,6 @@
 -- How a loop that takes the lowest member off finds what is in the row of each member of a set, for any width.
 use mathlib.Core.Path.{_≡_, refl, sym, ap, ap₂, _∙_}
-use mathlib.Core.Bool.{Bool, true, false, not, _&&_, false≢true}
+use mathlib.Core.Bool.{Bool, true, false, not, _&&_, false≢true, and-true, and-assoc}
 use mathlib.Core.List.{List}
 use Prim.Native.Nat.{ℕ, _^_, _<_}
 use native.Mathlib.Decide.{ℕ-discrete}
@@ -13,7 +13,7 @@ use Rattle.logic.specs.Quantifiers.{every, implies}
 use Rattle.logic.proofs.Bools.{iff, and-l, and-r, and-i, implies-in, implies-out}
 use Rattle.logic.proofs.Quantifiers.{every-in, every-out}
 use Rattle.sets.specs.Sets.{has, meet, without, single, below, first, common}
-use Rattle.sets.proofs.Laws.{has-empty, has-meet, has-without, has-single, has-below, first-member, ext}
+use Rattle.sets.proofs.Membership.{has-empty, has-meet, has-without, has-single, has-below, first-member, ext}
 use Rattle.sets.proofs.Members.{first-in}
 use Rattle.sets.proofs.Builder.{meet-lt, setOf-lt, has-setOf-in}
 
@@ -47,10 +47,6 @@ module _ (rows : List ℕ) (w : ℕ) where
       none y =
           every-in w (λ x. implies (has 0 x) (inRow rows x y))
           (λ x l. implies-in (has 0 x) (inRow rows x y) (λ e. absurd (false≢true (sym (has-empty x) ∙ e))))
-
-      and-true : (p : Bool) → p && true ≡ p
-      and-true true = refl
-      and-true false = refl
 
   -- everything, before the first
   pub common-start : (set : ℕ) → meet (below w) (common rows w set) ≡ common rows w set
@@ -108,10 +104,6 @@ module _ (rows : List ℕ) (w : ℕ) where
         ∙ and-assoc (has c y) (has row y) (inAll rest y)
         ∙ ap (λ (t : Bool). has c y && t) (parts y ∙ sym (has-common m y l))
         ∙ sym (has-meet c (common rows w m) y))
-      where
-        and-assoc : (p q r : Bool) → (p && q) && r ≡ p && (q && r)
-        and-assoc true q r = refl
-        and-assoc false q r = refl
 
     -- where nothing is left with the lowest member, nothing is with all
     pub common-none : (c : ℕ) → c < 2 ^ w → meet c (getD rows (first w m) 0) ≡ 0 → 0 ≡ meet c (common rows w m)

@@ -12,9 +12,9 @@ use lib.Dec.{eqb}
 use lib.Arith.{lt-one}
 use lib.Count.{ones, ones-step}
 use borrow.Author.Tests.{eq-eqb, ne-eqb}
-use Rattle.logic.proofs.Bools.{by-test, is-false}
+use Rattle.logic.proofs.Bools.{by-test, is-false, cond-mono}
 use Rattle.sets.specs.Sets.{has, without, single, first, count, membersFrom, members}
-use Rattle.sets.proofs.Laws.{has-zero, has-suc, has-without, has-single, has-empty, none-empty, member-below, first-least, first-member}
+use Rattle.sets.proofs.Membership.{has-zero, has-suc, has-without, has-single, has-empty, none-empty, member-below, first-least, first-member}
 
 two-pos : 0 < 2
 two-pos = zero-lt-suc 1
@@ -153,17 +153,11 @@ size-step k i m = go (has m i)
     go true = omega arith
     go false = omega arith
 
-one-le : (p q : Bool) → (p ≡ true → q ≡ true) → cond p 1 0 ≤ cond q 1 0
-one-le true true h = omega arith
-one-le true false h = absurd (false≢true (h refl))
-one-le false true h = omega arith
-one-le false false h = omega arith
-
 -- a set has no more members than one that holds them all
 pub no-more : (k i a b : ℕ) → ((j : ℕ) → has a j ≡ true → has b j ≡ true) → length (membersFrom k i a) ≤ length (membersFrom k i b)
 unfolding membersFrom
 no-more zero i a b h = zero-le
-no-more (suc k) i a b h = omega (arith, size-step k i a, size-step k i b, one-le (has a i) (has b i) (h i), no-more k (suc i) a b h)
+no-more (suc k) i a b h = omega (arith, size-step k i a, size-step k i b, cond-mono (has a i) (has b i) (h i), no-more k (suc i) a b h)
 
 less : (k i a b x : ℕ) → ((j : ℕ) → has a j ≡ true → has b j ≡ true) → i ≤ x → x < i + k → has a x ≡ false → has b x ≡ true
     → length (membersFrom k i a) < length (membersFrom k i b)
@@ -176,7 +170,7 @@ less (suc k) i a b x h l u f t =
     let ea : length (membersFrom (suc k) i a) ≡ length (membersFrom k (suc i) a) = size-step k i a ∙ rw p (zero-add (length (membersFrom k (suc i) a))) in
     let eb : length (membersFrom (suc k) i b) ≡ 1 + length (membersFrom k (suc i) b) = size-step k i b ∙ rw q in
     omega (arith, no-more k (suc i) a b h))
-    (λ g. omega (arith, size-step k i a, size-step k i b, one-le (has a i) (has b i) (h i), less k (suc i) a b x h g (omega arith) f t))
+    (λ g. omega (arith, size-step k i a, size-step k i b, cond-mono (has a i) (has b i) (h i), less k (suc i) a b x h g (omega arith) f t))
     (eq-or-lt-of-le l)
 
 pub count-less : (w a b x : ℕ) → a < 2 ^ w → b < 2 ^ w → ((j : ℕ) → has a j ≡ true → has b j ≡ true) → has a x ≡ false → has b x ≡ true

@@ -8,7 +8,7 @@ use lib.Dec.{eqb}
 use lib.Pow.{shr-shr, shl-shr}
 use borrow.Author.Tests.{ne-eqb}
 use Rattle.sets.specs.Sets.{has}
-use Rattle.sets.proofs.Laws.{has-zero, has-suc}
+use Rattle.sets.proofs.Membership.{has-zero, has-suc}
 
 pub has-shr : (a w j : ℕ) → has (a / 2 ^ w) j ≡ has a (j + w)
 unfolding has

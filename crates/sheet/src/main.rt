@@ -2,7 +2,7 @@
 use libc::STDIN_FILENO;
 
 fn main() {
-    let mut input = [0u8; 4096];
-    let mut text = [0u8; 32768];
-    page::run(STDIN_FILENO, &mut input, &mut text);
+    let mut input = [0u8; sheet_text::INPUT];
+    let mut text = [0u8; sheet_text::MEL_ROOM];
+    sheet_text::run(STDIN_FILENO, &mut input, &mut text);
 }

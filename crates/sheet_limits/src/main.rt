@@ -3,9 +3,9 @@
 
 // Prints the sheet of the record in the file of this name.
 fn print_sheet(name: &[u8]) {
-    let mut input = [0u8; 4096];
-    let mut text = [0u8; 32768];
-    page::run(os::open_read(name), &mut input, &mut text);
+    let mut input = [0u8; sheet_text::INPUT];
+    let mut text = [0u8; sheet_text::MEL_ROOM];
+    sheet_text::run(os::open_read(name), &mut input, &mut text);
 }
 
 fn main() {

@@ -13,44 +13,46 @@ use native.Mathlib.Decide.{decLe, decLt}
 use native.Mathlib.Omega.{arith}
 use lib.Dec.{eqb}
 use lib.ListN.{length}
-use Rattle.fields.specs.Fields.{goalCount}
+use Rattle.record_fields.specs.Fields.{goalCount}
 use Rattle.record.specs.WellFormed.{WellFormed}
 use Rattle.record.proofs.WellFormed.{well-formed-fine}
 use Rattle.expression.specs.Expr as E
 use Rattle.expression.specs.Expr.{Expr, UsesOnce}
 use Rattle.order.specs.Order as O
 use Rattle.form.specs.Demand.{HasOrder, Expresses}
-use Rattle.grammar.specs.Grammar.{Text, BadAt}
-use Rattle.grammar.specs.Reader.{Reading, accepted, refused, read}
-use Rattle.grammar.specs.Numbers.{misuse}
-use Rattle.grammar.specs.Reading.{Ruling, answer, numbered, decided, readText}
-use Rattle.grammar.specs.Check.{Verdict, same, differs, firstDiffer, verdict, judged, checked}
-use Rattle.grammar.proofs.Theorems.{accepts, refuses, read-text, read-16, read-17}
-use Rattle.grammar.proofs.Goals.{misuse-none}
-use Rattle.grammar.proofs.Differences.{same-order}
+use Rattle.expression_grammar.specs.Grammar.{Text, BadAt}
+use Rattle.expression_grammar.specs.Reader.{Scan, reads, stops, read}
+use Rattle.expression_grammar.specs.Numbers.{misuse}
+use Rattle.record_rules.specs.Outcome.{Outcome, refused, accepted}
+use Rattle.expression_grammar.specs.TextRules.{numbered, decided, readText}
+use Rattle.expression_grammar.specs.Check.{Verdict, same, differs, firstDiffer, verdict, judged, checked}
+use Rattle.expression_grammar.proofs.Theorems.{accepts, refuses, read-text, read-16, read-17}
+use Rattle.expression_grammar.proofs.Goals.{misuse-none}
+use Rattle.expression_grammar.proofs.Differences.{same-order}
 use Rattle.annotator.specs.declared.CheckAnswer.{CheckAnswer}
-use Rattle.annotator.specs.Answers.{CheckValues, noCheck, saying, checkValues, ruled, check}
+use Rattle.annotator.specs.Answers.{checkOutcome, check}
 use Rattle.annotator.proofs.Checks.{check-fine}
-use Rattle.grammar.specs.Occurrences.{Misused}
-use Rattle.theorems.specs.Check.{Sized, FirstDifference, Case, refused-15, refused-16, refused-17, says-same, says-differs, values, Applies, CheckSays}
-use Rattle.grammar.proofs.Misuses.{misuse-is}
-use Rattle.grammar.proofs.Readings.{sized, unsized}
+use Rattle.expression_grammar.specs.Occurrences.{Misused}
+use Rattle.theorems.specs.Check.{Sized, FirstDifference, Case, refused-15, refused-16, refused-17, says-same, says-differs, answer, Applies, CheckSays}
+use Rattle.expression_grammar.proofs.Misuses.{misuse-is}
+use Rattle.expression_grammar.proofs.Readings.{sized, unsized}
 use Rattle.theorems.proofs.Orders.{first-is, order-is}
 
 -- ---- the answers of the five cases are different
-abbrev case-of : CheckValues → Case
-case-of x =
-    cond (eqb (x .number) 15) refused-15 (cond (eqb (x .number) 16) (refused-16 (x .place)) (cond (eqb (x .number) 17) (refused-17 (x .place)) (cond (eqb (x .verdict) 1) says-same (says-differs (x .i) (x .j)))))
+abbrev case-of : Outcome Verdict → Case
+case-of (refused k p) = cond (eqb k 15) refused-15 (cond (eqb k 16) (refused-16 p) (refused-17 p))
+case-of (accepted same) = says-same
+case-of (accepted (differs i j)) = says-differs i j
 
-case-of-values : (c : Case) → case-of (values c) ≡ c
-case-of-values refused-15 = refl
-case-of-values (refused-16 p) = refl
-case-of-values (refused-17 p) = refl
-case-of-values says-same = refl
-case-of-values (says-differs i j) = refl
+case-of-answer : (c : Case) → case-of (answer c) ≡ c
+case-of-answer refused-15 = refl
+case-of-answer (refused-16 p) = refl
+case-of-answer (refused-17 p) = refl
+case-of-answer says-same = refl
+case-of-answer (says-differs i j) = refl
 
-values-differ : (c c′ : Case) → values c ≡ values c′ → c ≡ c′
-values-differ c c′ h = sym (case-of-values c) ∙ ap case-of h ∙ case-of-values c′
+answers-differ : (c c′ : Case) → answer c ≡ answer c′ → c ≡ c′
+answers-differ c c′ h = sym (case-of-answer c) ∙ ap case-of h ∙ case-of-answer c′
 
 -- ---- a text that has not 1 to 512 bytes
 too-short-or-long : (t : List ℕ) → (1 ≤ length t → length t ≤ 512 → ⊥) → (t ≡ []) ⊎ (512 < length t)
@@ -69,22 +71,22 @@ module _ (b t : List ℕ) where
   R = O.before b
 
   -- ---- the answer of a case that applies
-  applied : (c : Case) → Applies b t c → ruled (checked n R t) ≡ values c
+  applied : (c : Case) → Applies b t c → checked n R t ≡ answer c
   unfolding checked
-  applied refused-15 a = ap (λ r. ruled (judged n R r)) (unsized n t (not-sized t a))
-  applied (refused-16 p) ((lo, hi), a) = ap (λ r. ruled (judged n R r)) (read-16 n t p .1 (lo, hi, a))
-  applied (refused-17 p) ((lo, hi), a) = ap (λ r. ruled (judged n R r)) (read-17 n t p .1 (lo, hi, a))
+  applied refused-15 a = ap (λ r. judged n R r) (unsized n t (not-sized t a))
+  applied (refused-16 p) ((lo, hi), a) = ap (λ r. judged n R r) (read-16 n t p .1 (lo, hi, a))
+  applied (refused-17 p) ((lo, hi), a) = ap (λ r. judged n R r) (read-17 n t p .1 (lo, hi, a))
   applied says-same ((lo, hi), (e, j, x)) =
-      ap (λ r. ruled (judged n R r)) (read-text n t e .1 (lo, hi, j, x .uses))
-      ∙ ap (λ o. saying (verdict o)) (same-order n R (E.before e) .1 (order-is b e (x .uses) .1 (x .order)))
+      ap (λ r. judged n R r) (read-text n t e .1 (lo, hi, j, x .uses))
+      ∙ ap (λ o. accepted (verdict o)) (same-order n R (E.before e) .1 (order-is b e (x .uses) .1 (x .order)))
   applied (says-differs i j) ((lo, hi), (e, s, u, f)) =
-      ap (λ r. ruled (judged n R r)) (read-text n t e .1 (lo, hi, s, u)) ∙ ap (λ o. saying (verdict o)) (first-is b e u i j .1 f)
+      ap (λ r. judged n R r) (read-text n t e .1 (lo, hi, s, u)) ∙ ap (λ o. accepted (verdict o)) (first-is b e u i j .1 f)
 
   -- ---- a case that applies, with its answer
-  abbrev Answered : Ruling Verdict → Type 0
-  Answered r = (c : Case) × Applies b t c × (ruled r ≡ values c)
+  abbrev Answered : Outcome Verdict → Type 0
+  Answered r = (c : Case) × Applies b t c × (r ≡ answer c)
 
-  compared : Sized t → (e : Expr) → Text 32 t e → UsesOnce n e → (o : Option (ℕ × ℕ)) → firstDiffer n R (E.before e) ≡ o → Answered (answer (verdict o))
+  compared : Sized t → (e : Expr) → Text 32 t e → UsesOnce n e → (o : Option (ℕ × ℕ)) → firstDiffer n R (E.before e) ≡ o → Answered (accepted (verdict o))
   compared z e j u none h = (says-same, (z, (e, j, record { uses = u; order = order-is b e u .0 (same-order n R (E.before e) .0 h) })), refl)
   compared z e s u (some (i, j)) h = (says-differs i j, (z, (e, s, u, first-is b e u i j .0 h)), refl)
 
@@ -92,9 +94,9 @@ module _ (b t : List ℕ) where
   used z e j none h = compared z e j (misuse-none 32 n t e j .0 h) (firstDiffer n R (E.before e)) refl
   used z e j (some p) h = (refused-17 p, (z, (e, j, misuse-is n j p .0 h)), refl)
 
-  was-read : Sized t → (r : Reading) → read 32 t ≡ r → Answered (judged n R (decided n t r))
-  was-read z (refused p) h = (refused-16 p, (z, refuses 32 t p .0 h), refl)
-  was-read z (accepted e) h = let j = accepts 32 t e .0 h in used z e j (misuse n t e) refl
+  was-read : Sized t → (r : Scan) → read 32 t ≡ r → Answered (judged n R (decided n t r))
+  was-read z (stops p) h = (refused-16 p, (z, refuses 32 t p .0 h), refl)
+  was-read z (reads e) h = let j = accepts 32 t e .0 h in used z e j (misuse n t e) refl
 
   answered : Answered (checked n R t)
   unfolding checked
@@ -111,39 +113,39 @@ module _ (b t : List ℕ) where
 -- ---- T12. For a well-formed record and any text: each answer is given exactly if its case applies; one case applies, and only one.
 pub check-says : (b t : List ℕ) → WellFormed b → CheckSays b t
 check-says b t w =
-    let fine : ruled (checked (goalCount b) (O.before b) t) ≡ check b t = check-fine b t (sym (well-formed-fine b w)) refl in
+    let fine : checked (goalCount b) (O.before b) t ≡ check b t = check-fine b t (sym (well-formed-fine b w)) refl in
     let (c₀, a₀, e₀) = answered b t in
     record {
-      exactly = λ c. (λ h. subst (Applies b t) (values-differ c₀ c (sym e₀ ∙ fine ∙ h)) a₀, λ a. sym fine ∙ applied b t c a);
+      exactly = λ c. (λ h. subst (Applies b t) (answers-differ c₀ c (sym e₀ ∙ fine ∙ h)) a₀, λ a. sym fine ∙ applied b t c a);
       one-case = (c₀, a₀);
-      only-case = λ c c′ a a′. values-differ c c′ (sym (applied b t c a) ∙ applied b t c′ a′);
+      only-case = λ c c′ a a′. answers-differ c c′ (sym (applied b t c a) ∙ applied b t c′ a′);
     }
 
 -- Its equivalences, one by one.
 module _ (b t : List ℕ) (w : WellFormed b) where
   -- 15 exactly if the text is empty or above 512 bytes;
-  pub check-15 : (check b t ≡ noCheck 15 0) ↔ ((t ≡ []) ⊎ (512 < length t))
+  pub check-15 : (check b t ≡ refused 15 0) ↔ ((t ≡ []) ⊎ (512 < length t))
   check-15 = check-says b t w .exactly refused-15
 
   -- 16 exactly if it is not, and p is its bad place;
-  pub check-16 : (p : ℕ) → (check b t ≡ noCheck 16 p) ↔ (Sized t × BadAt 32 t p)
+  pub check-16 : (p : ℕ) → (check b t ≡ refused 16 p) ↔ (Sized t × BadAt 32 t p)
   check-16 p = check-says b t w .exactly (refused-16 p)
 
   -- 17 exactly if it is in the grammar, and p is the place of its leftmost number above n or met before, or it has none, a goal is missing and p is its length;
-  pub check-17 : (p : ℕ) → (check b t ≡ noCheck 17 p) ↔ (Sized t × Misused (goalCount b) t p)
+  pub check-17 : (p : ℕ) → (check b t ≡ refused 17 p) ↔ (Sized t × Misused (goalCount b) t p)
   check-17 p = check-says b t w .exactly (refused-17 p)
 
   -- "same" exactly if it is the text of an expression that uses each goal exactly once and has the record's order;
-  pub check-same : (check b t ≡ saying same) ↔ (Sized t × ((e : Expr) × Text 32 t e × Expresses b e))
+  pub check-same : (check b t ≡ accepted same) ↔ (Sized t × ((e : Expr) × Text 32 t e × Expresses b e))
   check-same = check-says b t w .exactly says-same
 
   -- "differs" exactly if it is the text of an expression that uses each goal exactly once, and i, j is the first pair that just one of the two orders has.
   pub check-differs : (i j : ℕ)
-      → (check b t ≡ saying (differs i j)) ↔ (Sized t × ((e : Expr) × Text 32 t e × UsesOnce (goalCount b) e × FirstDifference b e i j))
+      → (check b t ≡ accepted (differs i j)) ↔ (Sized t × ((e : Expr) × Text 32 t e × UsesOnce (goalCount b) e × FirstDifference b e i j))
   check-differs i j = check-says b t w .exactly (says-differs i j)
 
--- The operation promises `checkValues r ≡ check b t` of its answer r: so its answer says the same.
-pub answer-says : (b t : List ℕ) → WellFormed b → (r : CheckAnswer) → checkValues r ≡ check b t → (c : Case) → (checkValues r ≡ values c) ↔ Applies b t c
+-- The operation promises `checkOutcome r ≡ check b t` of its answer r: so its answer says the same.
+pub answer-says : (b t : List ℕ) → WellFormed b → (r : CheckAnswer) → checkOutcome r ≡ check b t → (c : Case) → (checkOutcome r ≡ answer c) ↔ Applies b t c
 answer-says b t w r e c = let x = check-says b t w .exactly c in (λ h. x .0 (sym e ∙ h), λ a. e ∙ x .1 a)
 
 -- An expression that differs has not the record's order.

@@ -1,6 +1,6 @@
 -- The two orders that the check compares, in words.
 --     just-one-is   the tests of the two orders differ exactly if just one of the orders has i before j
---     first-is      the first difference that `firstDiffer` of the crate `grammar` finds is the first in words
+--     first-is      the first difference that `firstDiffer` of `expression_grammar` finds is the first in words
 --     order-is      to have the record's order, by the tests and in words
 use mathlib.Core.Path.{_≡_, refl, sym, ap, _∙_}
 use mathlib.Core.Bool.{true, false, true≢false}
@@ -11,7 +11,7 @@ use Prim.Native.Nat.{ℕ, _<_, _≤_}
 use native.Mathlib.Decide.{decLt}
 use native.Mathlib.Omega.{arith}
 use Rattle.logic.proofs.Bools.{test}
-use Rattle.fields.specs.Fields.{goalCount}
+use Rattle.record_fields.specs.Fields.{goalCount}
 use Rattle.expression.specs.Expr as E
 use Rattle.expression.specs.Expr.{Expr, UsesOnce}
 use Rattle.expression.specs.Induced as I
@@ -19,8 +19,8 @@ use Rattle.expression.proofs.Theorems.{before-is, has-order-is, uses-once}
 use Rattle.order.specs.Order as O
 use Rattle.order.proofs.Theorems as O′
 use Rattle.form.specs.Demand.{HasOrder}
-use Rattle.grammar.specs.Check.{firstDiffer}
-use Rattle.grammar.proofs.Differences as D
+use Rattle.expression_grammar.specs.Check.{firstDiffer}
+use Rattle.expression_grammar.proofs.Differences as D
 use Rattle.theorems.specs.Check.{JustOne, FirstDifference}
 
 -- two first pairs are one

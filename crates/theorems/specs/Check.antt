@@ -6,19 +6,21 @@ use mathlib.Core.List.{List, []}
 use mathlib.Core.Logic.{_⊎_, _↔_}
 use Prim.Native.Nat.{ℕ, _≤_, _<_}
 use lib.ListN.{length}
-use Rattle.fields.specs.Fields.{goalCount}
+use Rattle.record_fields.specs.Fields.{goalCount}
 use Rattle.order.specs.Order as O
 use Rattle.expression.specs.Expr.{Expr, UsesOnce, Goals}
 use Rattle.expression.specs.Induced as I
 use Rattle.form.specs.Demand.{Expresses}
-use Rattle.grammar.specs.Grammar.{Text, BadAt}
-use Rattle.grammar.specs.Check.{same, differs}
-use Rattle.annotator.specs.Answers.{CheckValues, noCheck, saying, check}
-use Rattle.grammar.specs.Occurrences.{Misused}
+use Rattle.expression_grammar.specs.Grammar.{Text, BadAt}
+use Rattle.record_rules.specs.Outcome.{Outcome, refused, accepted}
+use Rattle.expression_grammar.specs.TextRules.{openLimit, expressionLimit}
+use Rattle.expression_grammar.specs.Check.{Verdict, same, differs}
+use Rattle.annotator.specs.Answers.{check}
+use Rattle.expression_grammar.specs.Occurrences.{Misused}
 
 -- 1 to 512 bytes
 abbrev pub Sized : List ℕ → Type 0
-Sized t = (1 ≤ length t) × (length t ≤ 512)
+Sized t = (1 ≤ length t) × (length t ≤ expressionLimit)
 
 -- "just one of the two orders has i before j"
 abbrev pub JustOne : List ℕ → Expr → ℕ → ℕ → Type 0
@@ -39,23 +41,23 @@ pub data Case : Type 0 where
   says-differs : ℕ → ℕ → Case
 
 -- .. the answer of each ..
-abbrev pub values : Case → CheckValues
-values refused-15 = noCheck 15 0
-values (refused-16 p) = noCheck 16 p
-values (refused-17 p) = noCheck 17 p
-values says-same = saying same
-values (says-differs i j) = saying (differs i j)
+abbrev pub answer : Case → Outcome Verdict
+answer refused-15 = refused 15 0
+answer (refused-16 p) = refused 16 p
+answer (refused-17 p) = refused 17 p
+answer says-same = accepted same
+answer (says-differs i j) = accepted (differs i j)
 
 -- .. and when it applies, for the record b and the text t.
 abbrev pub Applies : List ℕ → List ℕ → Case → Type 0
-Applies b t refused-15 = (t ≡ []) ⊎ (512 < length t)
-Applies b t (refused-16 p) = Sized t × BadAt 32 t p
+Applies b t refused-15 = (t ≡ []) ⊎ (expressionLimit < length t)
+Applies b t (refused-16 p) = Sized t × BadAt openLimit t p
 Applies b t (refused-17 p) = Sized t × Misused (goalCount b) t p
-Applies b t says-same = Sized t × ((e : Expr) × Text 32 t e × Expresses b e)
-Applies b t (says-differs i j) = Sized t × ((e : Expr) × Text 32 t e × UsesOnce (goalCount b) e × FirstDifference b e i j)
+Applies b t says-same = Sized t × ((e : Expr) × Text openLimit t e × Expresses b e)
+Applies b t (says-differs i j) = Sized t × ((e : Expr) × Text openLimit t e × UsesOnce (goalCount b) e × FirstDifference b e i j)
 
 -- The check in words: each answer is given exactly if its case applies; one case applies, and only one.
 pub record CheckSays (b t : List ℕ) : Type 0 where
-  pub exactly : (c : Case) → (check b t ≡ values c) ↔ Applies b t c
+  pub exactly : (c : Case) → (check b t ≡ answer c) ↔ Applies b t c
   pub one-case : (c : Case) × Applies b t c
   pub only-case : (c c′ : Case) → Applies b t c → Applies b t c′ → c ≡ c′

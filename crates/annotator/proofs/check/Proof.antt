@@ -1,13 +1,9 @@
 use mathlib.Core.Path.{_∙_}
-use Rattle.annotator.proofs.Answers.{accepted}
+use Rattle.annotator.proofs.Answers.{well-formed}
 use Rattle.annotator.proofs.Checks.{check-refused, check-fine}
 use borrow.Author.Needs.{needs}
 use Rattle.annotator.proofs.check.Statement.{statement}
 use Rattle.annotator.proofs.check.Tie as tie
-use Rattle.annotator.proofs.check.Reads as reads
-use Rattle.annotator.proofs.check.Lts as lts
-use Rattle.annotator.proofs.check_text.Reads as check-text-reads
-use Rattle.decoding.proofs.read.Reads as read-reads
 
 read-requires : tie.Need-read-requires
 read-requires c κs = search needs
@@ -19,16 +15,13 @@ enum-told : tie.Need-enum-told
 enum-told c = search needs
 
 check-text-requires : tie.Need-check-text-requires
-check-text-requires c κs =
-    let t = c .before .before in
-    let r = t .before .before .read .ensures in
-    (accepted _ (r .0) (t .enum-told .given .1) .goals-to, r .1 .0 (t .enum-told .given .1))
+check-text-requires c κs = let t = c in well-formed _ (t .before .before .read .ensures) (t .enum-told .given .1)
 
 returns : tie.Need-returns
-returns c = check-refused _ _ _ (c .before .before .before .read .ensures .0) (c .before .r .given .1)
+returns c = check-refused _ _ _ (c .before .before .before .read .ensures) (c .before .r .given .1)
 
 returns-2 : tie.Need-returns-2
-returns-2 c = c .check-text .ensures ∙ check-fine _ _ (c .before .before .before .before .before .read .ensures .0) (c .before .before .before .enum-told .given .1)
+returns-2 c = let t = c .before in c .check-text .ensures ∙ check-fine _ _ (t .before .before .read .ensures) (t .enum-told .given .1)
 
 pub check-spec : {M : Type 1} → statement M
 check-spec =

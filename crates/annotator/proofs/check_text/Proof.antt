@@ -1,19 +1,20 @@
+use Prim.Native.Nat.{_≤_}
+use native.Mathlib.Omega.{arith}
+use Rattle.order.proofs.Decoded.{clause-few, clause-order}
 use Rattle.annotator.proofs.Checks.{text-turned, text-compared}
 use borrow.Author.Needs.{needs}
 use Rattle.annotator.proofs.check_text.Statement.{statement}
 use Rattle.annotator.proofs.check_text.Tie as tie
-use Rattle.annotator.proofs.check_text.Reads as reads
-use Rattle.annotator.proofs.check_text.Lts as lts
-use Rattle.annotator.proofs.goal_count.Reads as goal-count-reads
-use Rattle.compare.proofs.compare.Reads as compare-reads
-use Rattle.order.proofs.order_of.Reads as order-of-reads
-use Rattle.text_reading.proofs.read_text.Reads as read-text-reads
+
+-- the goal count is at most 32
+few : (c : tie.After-goal-count) → c .goal-count .result ≤ 32
+few c = omega (arith, c .goal-count .ensures .0, c .before .before .before .pre .goals-to)
 
 goal-count-requires : tie.Need-goal-count-requires
 goal-count-requires c κs = search needs
 
 read-text-requires : tie.Need-read-text-requires
-read-text-requires c κs = search needs
+read-text-requires c κs = few c
 
 enum-known-outcome : tie.Need-enum-known-outcome
 enum-known-outcome c = search needs
@@ -21,17 +22,30 @@ enum-known-outcome c = search needs
 enum-told : tie.Need-enum-told
 enum-told c = search needs
 
+decode-requires : tie.Need-decode-requires
+decode-requires c κs = c .before .before .before .before .before .before .pre
+
 order-of-requires : tie.Need-order-of-requires
-order-of-requires c κs = search needs
+order-of-requires c κs = let d = c .before .before .before .before in clause-few _ (d .before .before .before .before .before .before .before .pre) _ (d .decode .ensures)
 
 compare-requires : tie.Need-compare-requires
-compare-requires c κs = search needs
+compare-requires c κs = few (c .before .before .before .before .before .before .before .before .before .before .before .before .before .before)
 
 returns : tie.Need-returns
-returns c = let a = c .before .before .before .before .before .before .before .args in text-turned (a .bytes .now) (a .text .now) _ (c .before .before .before .read-text .result) _ (c .before .before .before .before .goal-count .ensures) (c .before .before .before .read-text .ensures) (c .before .outcome .given .1)
+returns c =
+    let a = c .before .before .before .before .before .before .before .args in
+    let t = c .before .before .before in
+    text-turned (a .bytes .now) (a .text .now) _ (t .read-text .result) _ (t .before .goal-count .ensures .0) (t .read-text .ensures) (c .before .outcome .given .1)
 
 returns-2 : tie.Need-returns-2
-returns-2 c = let a = c .before .before .before .before .before .before .before .before .before .before .before .before .before .args in text-compared (a .bytes .now) (a .text .now) _ (c .before .before .before .before .before .before .before .before .before .read-text .result) (c .before .before .before .before .before .before .order-of .result) _ (c .before .before .before .before .before .before .before .before .before .before .goal-count .ensures) (search needs) (c .before .before .before .before .before .before .before .before .before .read-text .ensures) (c .before .before .before .before .before .before .before .enum-told .given .1) (c .before .before .before .before .before .before .order-of .ensures) (c .compare .ensures)
+returns-2 c =
+    let s = c .before .before .before .before .before .before .before .before .before .before .before .before .before .before .before .before .before .before in
+    let n = c .before .before .before .before .before .before .before .before .before .before .before .before .before .before .before in
+    let t = c .before .before .before .before .before .before .before .before .before .before .before .before .before .before in
+    let d = c .before .before .before .before .before .before .before .before .before .before .before in
+    let o = c .before .before .before .before .before .before in
+    text-compared (s .args .bytes .now) (s .args .text .now) _ (t .read-text .result) (o .order-of .result) _ (n .goal-count .ensures .0) (few n) (t .read-text .ensures)
+    (d .before .enum-told .given .1) (clause-order _ (s .pre) _ (d .decode .ensures) (o .order-of .ensures)) (c .compare .ensures)
 
 pub check-text-spec : {M : Type 1} → statement M
 check-text-spec =
@@ -41,6 +55,7 @@ check-text-spec =
     read-text-requires
     enum-known-outcome
     enum-told
+    decode-requires
     order-of-requires
     compare-requires
     returns

@@ -1,16 +1,8 @@
 use native.Mathlib.Omega.{arith}
-use Rattle.annotator.proofs.Answers.{accepted, tested, in-range, text-at, text-refused, text-outside}
+use Rattle.annotator.proofs.Answers.{well-formed, tested, in-range, text-at, text-refused, text-outside}
 use borrow.Author.Needs.{needs}
 use Rattle.annotator.proofs.find_text.Statement.{statement}
 use Rattle.annotator.proofs.find_text.Tie as tie
-use Rattle.annotator.proofs.find_text.Reads as reads
-use Rattle.annotator.proofs.find_text.Lts as lts
-use Rattle.annotator.proofs.goal_count.Reads as goal-count-reads
-use Rattle.annotator.proofs.inside.Reads as inside-reads
-use Rattle.fields.proofs.goal_place.Reads as goal-place-reads
-use Rattle.fields.proofs.text_at.Reads as text-at-reads
-use Rattle.fields.proofs.text_length_at.Reads as text-length-at-reads
-use Rattle.record.proofs.read.Reads as read-reads
 
 read-requires : tie.Need-read-requires
 read-requires c κs = search needs
@@ -31,8 +23,8 @@ goal-place-requires : tie.Need-goal-place-requires
 goal-place-requires c κs =
     let b = c .before .before .before .before .before .before .before .args .bytes .now in
     let g = c .before .before .before .before .before .before .before .args .goal in
-    let w = accepted b (c .before .before .before .before .before .read .ensures) (c .before .before .before .enum-told .given .1) in
-    let r = in-range b g w (tested b g (c .before .inside .ensures) (c .if1 .taken) (c .before .before .goal-count .ensures)) in
+    let w = well-formed b (c .before .before .before .before .before .read .ensures) (c .before .before .before .enum-told .given .1) in
+    let r = in-range b g w (tested b g (c .before .inside .ensures) (c .if1 .taken) (c .before .before .goal-count .ensures .0)) in
     (omega arith, omega arith)
 
 text-at-requires : tie.Need-text-at-requires
@@ -45,7 +37,7 @@ returns : tie.Need-returns
 returns c =
     let b = c .before .before .before .before .before .before .before .before .before .before .args .bytes .now in
     let g = c .before .before .before .before .before .before .before .before .before .before .args .goal in
-    text-at b g (c .before .before .before .before .before .before .before .before .read .ensures) (c .before .before .before .before .before .before .enum-told .given .1) (tested b g (c .before .before .before .before .inside .ensures) (c .before .before .before .if1 .taken) (c .before .before .before .before .before .goal-count .ensures)) (c .before .before .goal-place .ensures .0) (c .before .text-at .ensures) (c .text-length-at .ensures .0)
+    text-at b g (c .before .before .before .before .before .before .before .before .read .ensures) (c .before .before .before .before .before .before .enum-told .given .1) (tested b g (c .before .before .before .before .inside .ensures) (c .before .before .before .if1 .taken) (c .before .before .before .before .before .goal-count .ensures .0)) (c .before .before .goal-place .ensures .0) (c .before .text-at .ensures) (c .text-length-at .ensures .0)
 
 returns-2 : tie.Need-returns-2
 returns-2 c = text-refused _ _ _ (c .before .before .before .read .ensures) (c .before .r .given .1)
@@ -54,7 +46,7 @@ returns-3 : tie.Need-returns-3
 returns-3 c =
     let b = c .before .before .before .before .before .before .before .args .bytes .now in
     let g = c .before .before .before .before .before .before .before .args .goal in
-    text-outside b g (c .before .before .before .before .before .read .ensures) (c .before .before .before .enum-told .given .1) (tested b g (c .before .inside .ensures) (c .if1 .left) (c .before .before .goal-count .ensures))
+    text-outside b g (c .before .before .before .before .before .read .ensures) (c .before .before .before .enum-told .given .1) (tested b g (c .before .inside .ensures) (c .if1 .left) (c .before .before .goal-count .ensures .0))
 
 pub find-text-spec : {M : Type 1} → statement M
 find-text-spec =

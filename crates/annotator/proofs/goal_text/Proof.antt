@@ -6,9 +6,6 @@ use Rattle.annotator.proofs.Answers.{span-inside, span-is, none-is}
 use borrow.Author.Needs.{needs}
 use Rattle.annotator.proofs.goal_text.Statement.{statement}
 use Rattle.annotator.proofs.goal_text.Tie as tie
-use Rattle.annotator.proofs.goal_text.Reads as reads
-use Rattle.annotator.proofs.goal_text.Lts as lts
-use Rattle.annotator.proofs.find_text.Reads as find-text-reads
 
 find-text-requires : tie.Need-find-text-requires
 find-text-requires c κs = search needs

@@ -1,13 +1,9 @@
-use Rattle.annotator.proofs.Answers.{accepted, read-fine, read-refused, order-fine, order-refused}
+use Rattle.record.specs.WellFormed.{WellFormed}
+use Rattle.order.proofs.Decoded.{clause-few, clause-count, clause-order}
+use Rattle.annotator.proofs.Answers.{well-formed, read-accepted, read-turned, order-fine, order-refused}
 use borrow.Author.Needs.{needs}
 use Rattle.annotator.proofs.order.Statement.{statement}
 use Rattle.annotator.proofs.order.Tie as tie
-use Rattle.annotator.proofs.order.Reads as reads
-use Rattle.annotator.proofs.order.Lts as lts
-use Rattle.annotator.proofs.goal_count.Reads as goal-count-reads
-use Rattle.graph.proofs.Graph.empty.Reads as empty-reads
-use Rattle.order.proofs.order_of.Reads as order-of-reads
-use Rattle.decoding.proofs.read.Reads as read-reads
 
 read-requires : tie.Need-read-requires
 read-requires c κs = search needs
@@ -15,14 +11,14 @@ read-requires c κs = search needs
 enum-told : tie.Need-enum-told
 enum-told c = search needs
 
-goal-count-requires : tie.Need-goal-count-requires
-goal-count-requires c κs = search needs
+formed : (c : tie.After-enum-told) → WellFormed (c .before .before .before .before .args .bytes .now)
+formed c = well-formed _ (c .before .before .read .ensures) (c .enum-told .given .1)
+
+decode-requires : tie.Need-decode-requires
+decode-requires c κs = formed c
 
 order-of-requires : tie.Need-order-of-requires
-order-of-requires c κs =
-    let t = c .before .before .before in
-    let r = t .before .before .read .ensures in
-    (accepted _ (r .0) (t .enum-told .given .1) .goals-to, r .1 .0 (t .enum-told .given .1))
+order-of-requires c κs = let d = c .before .before .before .before in clause-few _ (formed (d .before)) _ (d .decode .ensures)
 
 enum-known-r : tie.Need-enum-known-r
 enum-known-r c = search needs
@@ -32,12 +28,15 @@ empty-requires c κs = search needs
 
 returns : tie.Need-returns
 returns c =
-    let t = c .before .before .before .before in
-    let r = t .before .before .read .ensures .0 in
-    (read-fine _ r (t .enum-told .given .1) (c .before .before .before .goal-count .ensures), order-fine _ r (t .enum-told .given .1) (c .order-of .ensures))
+    let d = c .before .before .before .before .before in
+    let e = d .before .before .before .read .ensures in
+    let f = d .before .enum-told .given .1 in (
+      read-accepted _ e f (clause-count _ (formed (d .before)) _ (d .decode .ensures)),
+      order-fine _ e f (clause-order _ (formed (d .before)) _ (d .decode .ensures) (c .order-of .ensures)),
+    )
 
 returns-2 : tie.Need-returns-2
-returns-2 c = (read-refused _ _ (c .before .before .before .before .read .ensures .0) (c .before .before .r .given .1), order-refused _ _ (c .before .before .before .before .read .ensures .0) (c .before .before .r .given .1) (c .empty .ensures))
+returns-2 c = let e = c .before .before .before .before .read .ensures in let f = c .before .before .r .given .1 in (read-turned _ _ e f, order-refused _ _ e f (c .empty .ensures))
 
 pub order-spec : {M : Type 1} → statement M
 order-spec =
@@ -45,7 +44,7 @@ order-spec =
     (tie.spec
     read-requires
     enum-told
-    goal-count-requires
+    decode-requires
     order-of-requires
     enum-known-r
     empty-requires

@@ -1,13 +1,9 @@
 use mathlib.Core.Path.{_≡_, sym, ap, _∙_}
 use native.Mathlib.Omega.{arith}
-use Rattle.annotator.proofs.Answers.{read-fine, read-refused}
+use Rattle.annotator.proofs.Answers.{read-accepted, read-turned}
 use borrow.Author.Needs.{needs}
 use Rattle.annotator.proofs.read.Statement.{statement}
 use Rattle.annotator.proofs.read.Tie as tie
-use Rattle.annotator.proofs.read.Reads as reads
-use Rattle.annotator.proofs.read.Lts as lts
-use Rattle.annotator.proofs.goal_count.Reads as goal-count-reads
-use Rattle.record.proofs.read.Reads as read-reads
 
 read-requires : tie.Need-read-requires
 read-requires c κs = search needs
@@ -22,10 +18,10 @@ enum-known-r : tie.Need-enum-known-r
 enum-known-r c = search needs
 
 returns : tie.Need-returns
-returns c = read-fine _ (c .before .before .before .read .ensures) (c .before .enum-told .given .1) (c .goal-count .ensures)
+returns c = read-accepted _ (c .before .before .before .read .ensures) (c .before .enum-told .given .1) (c .goal-count .ensures .0)
 
 returns-2 : tie.Need-returns-2
-returns-2 c = read-refused _ _ (c .before .before .before .read .ensures) (c .before .r .given .1)
+returns-2 c = read-turned _ _ (c .before .before .before .read .ensures) (c .before .r .given .1)
 
 pub read-spec : {M : Type 1} → statement M
 read-spec =

@@ -1,22 +1,14 @@
-use borrow.Author.Needs.{needs}
-use mathlib.Core.Path.{_≡_, sym, ap, _∙_}
-use Rattle.reading.specs.declared.Reading.the-variants.{Fine}
-use Rattle.reading.specs.Reading.{reading}
-use Rattle.form.proofs.Orders.{goals-to, graph-asks, graph-plan}
-use Rattle.form.specs.Form.{Plan, answer, filled}
-use Rattle.form.proofs.Plans.{plan-refused, refused-answer, refused-buffer}
+use mathlib.Core.Path.{_≡_, sym, _∙_}
+use Rattle.record_rules.specs.declared.Reading.the-variants.{Fine}
+use Rattle.record_rules.specs.Reading.{reading}
+use Rattle.record.proofs.WellFormed.{fine-well-formed}
+use Rattle.order.specs.Order.{order}
+use Rattle.order.proofs.Decoded.{clause-few, clause-order}
+use Rattle.form.proofs.Orders.{graph-asks, graph-text, graph-shown}
+use Rattle.form.proofs.Outcomes.{form-refused, shown-refused, same-answer, same-buffer}
 use borrow.Author.Needs.{needs}
 use Rattle.form.proofs.write.Statement.{statement}
 use Rattle.form.proofs.write.Tie as tie
-use Rattle.form.proofs.write.Reads as reads
-use Rattle.form.proofs.write.Lts as lts
-use Rattle.order.proofs.order_of.Reads as order-of-reads
-use Rattle.form.proofs.write_rows.Reads as write-rows-reads
-use Rattle.decoding.proofs.read.Reads as read-reads
-
--- the record was read
-fine : (c : tie.After-enum-told) → reading (c .before .before .before .before .before .before .before .args .b .now) ≡ Fine
-fine c = sym (c .before .before .read .ensures .0) ∙ c .enum-told .given .1
 
 read-requires : tie.Need-read-requires
 read-requires c κs = search needs
@@ -27,29 +19,41 @@ enum-known-s c = search needs
 enum-told : tie.Need-enum-told
 enum-told c = search needs
 
+-- the record was read, and its order found
+fine : (c : tie.After-enum-told) → reading (c .before .before .before .before .before .args .b .now) ≡ Fine
+fine c = sym (c .before .before .read .ensures) ∙ c .enum-told .given .1
+
+found : (c : tie.After-order-of) → c .order-of .result ≡ order (c .before .before .before .before .before .before .before .before .before .before .before .args .b .now)
+found c =
+    let d = c .before .before .before .before .before in
+    clause-order _ (fine-well-formed _ (fine (d .before))) _ (d .decode .ensures) (c .order-of .ensures)
+
+decode-requires : tie.Need-decode-requires
+decode-requires c κs = fine-well-formed _ (fine c)
+
 order-of-requires : tie.Need-order-of-requires
-order-of-requires c κs =
-    let t = c .before .before in
-    (goals-to _ (fine t), t .before .before .read .ensures .1 .0 (t .enum-told .given .1))
+order-of-requires c κs = let d = c .before .before .before .before in clause-few _ (fine-well-formed _ (fine (d .before))) _ (d .decode .ensures)
 
 write-rows-requires : tie.Need-write-rows-requires
-write-rows-requires c κs = graph-asks _ (fine (c .before .before .before .before .before .before)) _ (c .before .before .before .order-of .ensures)
+write-rows-requires c κs =
+    let o = c .before .before .before in
+    graph-asks _ (fine (o .before .before .before .before .before .before)) _ (found o)
 
 returns : tie.Need-returns
 returns c =
-    let e = plan-refused _ _ (sym (c .before .before .before .read .ensures .0) ∙ c .before .s .given .1) in
-    (refused-answer _ _ _ _ e, refused-buffer _ _ _ _ e)
+    let e = sym (c .before .before .before .read .ensures) ∙ c .before .s .given .1 in
+    (sym (same-answer _ (form-refused _ _ e)), (sym (shown-refused _ _ e), sym (same-buffer _ (form-refused _ _ e))))
 
 same-length : tie.Need-same-length
 same-length c = search needs
 
 returns-2 : tie.Need-returns-2
 returns-2 c =
-    let e = graph-plan _ (fine (c .before .before .before .before .before .before .before .before .before)) _ (c .before .before .before .before .before .before .order-of .ensures) in
-    let buf = c .before .before .before .before .before .before .before .before .before .before .before .before .before .before .before .before .args .out .now in (
-      c .before .before .write-rows .ensures .0 ∙ ap (λ (p : Plan). answer p buf) e,
-      c .before .before .write-rows .ensures .1 ∙ ap (λ (p : Plan). filled p buf) e,
-    )
+    let o = c .before .before .before .before .before .before in
+    let f = fine (o .before .before .before .before .before .before) in
+    let r = c .before .before .write-rows .ensures in
+    let e = graph-text _ f _ (found o) in
+    (r .0 ∙ same-answer _ e, (r .1 .0 ∙ graph-shown _ f _ (found o), r .1 .1 ∙ same-buffer _ e))
 
 pub write-spec : {M : Type 1} → statement M
 write-spec =
@@ -58,6 +62,7 @@ write-spec =
     read-requires
     enum-known-s
     enum-told
+    decode-requires
     order-of-requires
     write-rows-requires
     returns

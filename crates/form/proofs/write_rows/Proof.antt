@@ -2,28 +2,29 @@ use borrow.Author.Needs.{needs}
 use native.Mathlib.Omega.{arith}
 use mathlib.Core.Path.{_≡_, sym, ap, _∙_}
 use mathlib.Core.Bool.{false}
-use mathlib.Core.Logic.{⊎-elim}
 use mathlib.Core.Option.{none}
 use Prim.Native.Nat.{_+_, _^_, _≤_, _<_}
 use lib.ListN.{length}
-use Rattle.text.proofs.Laws.{recast}
+use lib.Seq.{length-take-le}
+use Rattle.buffer.proofs.Writing.{kept, read-back}
+use Rattle.record_rules.specs.Outcome.{accepted}
 use Rattle.graph.specs.Graph.{ahead}
 use Rattle.expression.specs.Arrange.{formAny}
 use Rattle.expression.specs.Search.{firstN}
 use Rattle.expression.specs.Text.{text}
-use Rattle.first_n.specs.Found.{found}
-use Rattle.split.specs.Split.{Ordered, formText}
+use Rattle.form_first_n.specs.FirstN.{found}
+use Rattle.form_split.specs.Split.{Ordered, formText}
 use Rattle.form.proofs.Rows.{ordered, room, text-is, text-short}
-use Rattle.form.proofs.Plans.{settled-none, settled-some, none-answer, none-buffer, short-answer, short-buffer, fit-answer, fit-buffer}
+use Rattle.form.proofs.Outcomes.{thirteen-none, thirteen-some, same-answer, same-buffer}
 use borrow.Author.Needs.{needs}
 use Rattle.form.proofs.write_rows.Statement.{statement}
 use Rattle.form.proofs.write_rows.Tie as tie
 use Rattle.form.proofs.write_rows.Reads as reads
 use Rattle.form.proofs.write_rows.Lts as lts
-use Rattle.first_n.proofs.first_n.Reads as first-n-reads
+use Rattle.form_first_n.proofs.first_n.Reads as first-n-reads
 use Rattle.graph.proofs.transposed.Reads as transposed-reads
 use Rattle.sets.proofs.below32.Reads as below32-reads
-use Rattle.split.proofs.put_form.Reads as put-form-reads
+use Rattle.form_split.proofs.put_form.Reads as put-form-reads
 
 -- the search found nothing
 none-first : (c : tie.After-below32) → firstN (ahead (c .before .before .before .before .before .before .before .args .rows .now)) (c .before .before .before .before .before .before .before .args .n) ≡ none
@@ -49,11 +50,6 @@ short c =
     let s = c .before .before .before .before .before .before .before in
     text-short _ _ _ _ (s .pre .0) (s .pre .1) (s .pre .2) (none-first c) (c .before .before .before .before .before .transposed .ensures) (c .below32 .ensures)
 
--- where the text is stored the buffer has room for it: it was counted, or the buffer has room for every form
-fits : (c : tie.Joined1) → length (text (formAny (ahead (c .before .before .before .before .before .before .before .before .args .rows .now)) (c .before .before .before .before .before .before .before .before .args .n))) ≤ length (c .before .before .before .before .before .before .before .before .args .out .now)
-fits c =
-    ⊎-elim (λ w. omega (arith, w .3 .ensures .place, ap length (the-text (c .before)), w .5 .left)) (λ w. omega (arith, short (c .before), w .left)) (c .if1 .came)
-
 transposed-requires : tie.Need-transposed-requires
 transposed-requires c κs = search needs
 
@@ -73,37 +69,38 @@ slice-aggregate-put-form : tie.Need-slice-aggregate-put-form
 slice-aggregate-put-form c = search needs
 
 put-form-requires : tie.Need-put-form-requires
-put-form-requires c κs = asks (c .before .before .before)
+put-form-requires c κs = asks (c .before .before)
+
+-- the text's length, which the array holds
+size : (c : tie.After-put-form) → c .put-form .result ≤ 146
+size c = let d = c .before .before .before in omega (arith, c .put-form .ensures .place, ap length (the-text d), short d)
+
+array-share-prefix-space : tie.Need-array-share-prefix-space
+array-share-prefix-space c = omega (arith, size (c .before), kept (c .before .put-form .ensures))
+
+slice-aggregate-copy : tie.Need-slice-aggregate-copy
+slice-aggregate-copy c = sym (length-take-le _ _ (omega (arith, size (c .before .before), kept (c .before .before .put-form .ensures))))
+
+copy-requires : tie.Need-copy-requires
+copy-requires c κs = search needs
 
 returns : tie.Need-returns
 returns c =
-    let d = c .before .before .before .before .before .before in
-    let e = settled-none _ (none-first d) in
-    let place = c .before .before .put-form .ensures .place in
-    let need : c .before .before .put-form .result ≡ length (text (formAny (ahead (d .before .before .before .before .before .before .before .args .rows .now)) (d .before .before .before .before .before .before .before .args .n))) = omega (arith, place, ap length (the-text d)) in
-    (short-answer _ _ _ e _ need (c .if2 .taken), short-buffer _ _ _ e (omega (arith, need, c .if2 .taken)))
-
-put-form-requires-2 : tie.Need-put-form-requires-2
-put-form-requires-2 c κs = asks (c .before .before .before)
-
-returns-2 : tie.Need-returns-2
-returns-2 c =
-    let e = settled-some _ _ (sym (c .before .before .before .first-n .ensures) ∙ ap found (c .before .found .given .1)) in
-    (none-answer _ _ _ e, none-buffer _ _ _ e)
+    let e = sym (c .before .before .before .first-n .ensures) ∙ ap found (c .before .found .given .1) in
+    (sym (same-answer _ (thirteen-some _ _ e)), (sym e, sym (same-buffer _ (thirteen-some _ _ e))))
 
 same-length : tie.Need-same-length
 same-length c = search needs
 
-returns-3 : tie.Need-returns-3
-returns-3 c =
-    let d = c .before .before .before .before .before .before in
-    let e = settled-none _ (none-first d) in
-    let w = c .before .before .put-form2 .ensures in
-    let need : c .before .before .put-form2 .result ≡ length (text (formAny (ahead (d .before .before .before .before .before .before .before .args .rows .now)) (d .before .before .before .before .before .before .before .args .n))) = omega (arith, w .place, ap length (the-text d)) in
-    let room = fits (c .before .before .before .before .before) in (
-      fit-answer _ _ _ e _ need (omega (arith, need, room)),
-      fit-buffer _ _ _ e (recast (the-text d) w) room,
-    )
+returns-2 : tie.Need-returns-2
+returns-2 c =
+    let p = c .before .before .before .before .before .before in
+    let d = p .before .before .before in
+    let w = p .put-form .ensures in
+    let t = read-back w (omega (arith, size p, w .place)) ∙ the-text d in
+    let e = ap accepted t ∙ sym (thirteen-none _ (none-first d)) in
+    let r = c .before .before .copy .ensures in
+    (r .0 ∙ same-answer _ e, (r .1 .0 ∙ sym (none-first d), r .1 .1 ∙ same-buffer _ e))
 
 pub write-rows-spec : {M : Type 1} → statement M
 write-rows-spec =
@@ -116,8 +113,9 @@ write-rows-spec =
     below32-requires
     slice-aggregate-put-form
     put-form-requires
+    array-share-prefix-space
+    slice-aggregate-copy
+    copy-requires
     returns
-    put-form-requires-2
-    returns-2
     same-length
-    returns-3)
+    returns-2)

@@ -7,7 +7,7 @@ use native.Mathlib.Omega.{arith}
 use lib.ListN.{length, getD}
 use Rattle.logic.proofs.Bools.{and-l}
 use Rattle.sets.specs.Sets.{has, union, without, single, first, members}
-use Rattle.sets.proofs.Laws.{has-without, subset-has, first-member}
+use Rattle.sets.proofs.Membership.{has-without, subset-has, first-member}
 use Rattle.sets.proofs.Members.{first-in}
 use Rattle.sets.proofs.Builder.{without-lt}
 use Rattle.graph.specs.Passes.{gather}

@@ -1,16 +1,10 @@
 use native.Mathlib.Omega.{arith}
 use Rattle.record.proofs.WellFormed.{fine-well-formed}
 use Rattle.annotator.proofs.Answers.{tested, in-range}
-use Rattle.lfj.proofs.After.{accepted, after-refused, after-outside, after-row}
+use Rattle.lfj.proofs.After.{was-accepted, after-refused, after-outside, after-row}
 use borrow.Author.Needs.{needs}
 use Rattle.lfj.proofs.lfj_after.Statement.{statement}
 use Rattle.lfj.proofs.lfj_after.Tie as tie
-use Rattle.lfj.proofs.lfj_after.Reads as reads
-use Rattle.lfj.proofs.lfj_after.Lts as lts
-use Rattle.annotator.proofs.order.Reads as order-reads
-use Rattle.graph.proofs.Graph.row.Reads as row-reads
-use Rattle.annotator.proofs.inside.Reads as inside-reads
-use Rattle.lfj.proofs.refused.Reads as refused-reads
 
 order-requires : tie.Need-order-requires
 order-requires c κs = search needs
@@ -31,7 +25,7 @@ row-requires : tie.Need-row-requires
 row-requires c κs =
     let b = c .before .before .before .before .before .before .before .before .args .bytes .now in
     let g = c .before .before .before .before .before .before .before .before .args .goal in
-    let fine = accepted b (c .before .before .before .before .before .before .order .ensures .0) (c .before .before .before .before .reading2 .given .1) in
+    let fine = was-accepted b (c .before .before .before .before .before .before .order .ensures .0) (c .before .before .before .before .reading2 .given .1) in
     let r = in-range b g (fine-well-formed b (fine .0)) (tested b g (c .before .before .inside .ensures) (c .before .if1 .taken) (fine .1)) in
     (omega arith, omega arith)
 
@@ -42,7 +36,7 @@ returns : tie.Need-returns
 returns c =
     let b = c .before .before .before .before .before .before .before .before .before .args .bytes .now in
     let g = c .before .before .before .before .before .before .before .before .before .args .goal in
-    let fine = accepted b (c .before .before .before .before .before .before .before .order .ensures .0) (c .before .before .before .before .before .reading2 .given .1) in
+    let fine = was-accepted b (c .before .before .before .before .before .before .before .order .ensures .0) (c .before .before .before .before .before .reading2 .given .1) in
     after-row b g (fine .0) (c .before .before .before .before .before .before .before .order .ensures .1) (tested b g (c .before .before .before .inside .ensures) (c .before .before .if1 .taken) (fine .1)) (c .row .ensures)
 
 refused-requires-2 : tie.Need-refused-requires-2
@@ -55,7 +49,7 @@ returns-3 : tie.Need-returns-3
 returns-3 c =
     let b = c .before .before .before .before .before .before .before .before .args .bytes .now in
     let g = c .before .before .before .before .before .before .before .before .args .goal in
-    let fine = accepted b (c .before .before .before .before .before .before .order .ensures .0) (c .before .before .before .before .reading2 .given .1) in
+    let fine = was-accepted b (c .before .before .before .before .before .before .order .ensures .0) (c .before .before .before .before .reading2 .given .1) in
     after-outside b g (fine .0) (tested b g (c .before .before .inside .ensures) (c .before .if1 .left) (fine .1)) (c .refused2 .ensures)
 
 pub lfj-after-spec : {M : Type 1} → statement M

@@ -2,11 +2,6 @@ use Rattle.lfj.proofs.Words.{check-refused, check-verdict}
 use borrow.Author.Needs.{needs}
 use Rattle.lfj.proofs.lfj_check.Statement.{statement}
 use Rattle.lfj.proofs.lfj_check.Tie as tie
-use Rattle.lfj.proofs.lfj_check.Reads as reads
-use Rattle.lfj.proofs.lfj_check.Lts as lts
-use Rattle.annotator.proofs.check.Reads as check-reads
-use Rattle.lfj.proofs.refused.Reads as refused-reads
-use Rattle.lfj.proofs.verdict.Reads as verdict-reads
 
 check-requires : tie.Need-check-requires
 check-requires c κs = search needs
@@ -24,7 +19,7 @@ verdict-requires : tie.Need-verdict-requires
 verdict-requires c κs = search needs
 
 returns : tie.Need-returns
-returns c = check-refused _ (c .before .before .before .before .check .ensures) (c .before .before .r .given .1) (c .refused .ensures)
+returns c = check-refused (c .before .before .before .before .check .ensures) _ (c .before .before .r .given .1) (c .refused .ensures)
 
 returns-2 : tie.Need-returns-2
 returns-2 c = check-verdict (c .before .before .before .before .check .ensures) (c .before .before .v .given .1) (c .verdict .ensures)

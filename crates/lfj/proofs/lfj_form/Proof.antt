@@ -1,13 +1,7 @@
-use Rattle.lfj.proofs.Words.{form-refused, form-none, form-done}
+use Rattle.lfj.proofs.Words.{form-refused, form-none, form-done, form-word}
 use borrow.Author.Needs.{needs}
 use Rattle.lfj.proofs.lfj_form.Statement.{statement}
 use Rattle.lfj.proofs.lfj_form.Tie as tie
-use Rattle.lfj.proofs.lfj_form.Reads as reads
-use Rattle.lfj.proofs.lfj_form.Lts as lts
-use Rattle.annotator.proofs.form.Reads as form-reads
-use Rattle.lfj.proofs.low.Reads as low-reads
-use Rattle.lfj.proofs.no_form.Reads as no-form-reads
-use Rattle.lfj.proofs.refused.Reads as refused-reads
 
 form-requires : tie.Need-form-requires
 form-requires c κs = search needs
@@ -34,19 +28,19 @@ same-length : tie.Need-same-length
 same-length c = search needs
 
 returns : tie.Need-returns
-returns c = (form-refused (c .before .before .before .before .before .before .form .ensures .0) _ (c .before .before .r .given .1) (c .refused .ensures), c .before .before .before .before .before .before .form .ensures .1)
+returns c = let a = c .before .before .before .before .before .before in let f = a .form .ensures in (form-word (a .form .result) (f .0) (f .1 .0) (form-refused _ (c .before .before .r .given .1) (c .refused .ensures)), f .1 .1)
 
 same-length-2 : tie.Need-same-length-2
 same-length-2 c = search needs
 
 returns-2 : tie.Need-returns-2
-returns-2 c = (form-none (c .before .before .before .before .before .before .form .ensures .0) _ (c .before .before .q .given .1) (c .no-form .ensures), c .before .before .before .before .before .before .form .ensures .1)
+returns-2 c = let a = c .before .before .before .before .before .before in let f = a .form .ensures in (form-word (a .form .result) (f .0) (f .1 .0) (form-none _ (c .before .before .q .given .1) (c .no-form .ensures)), f .1 .1)
 
 same-length-3 : tie.Need-same-length-3
 same-length-3 c = search needs
 
 returns-3 : tie.Need-returns-3
-returns-3 c = (form-done (c .before .before .before .before .before .before .form .ensures .0) _ (c .before .before .n .given .1) (c .low .ensures), c .before .before .before .before .before .before .form .ensures .1)
+returns-3 c = let a = c .before .before .before .before .before .before in let f = a .form .ensures in (form-word (a .form .result) (f .0) (f .1 .0) (form-done _ (c .before .before .n .given .1) (c .low .ensures)), f .1 .1)
 
 pub lfj-form-spec : {M : Type 1} → statement M
 lfj-form-spec =

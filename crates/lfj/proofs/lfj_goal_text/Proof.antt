@@ -2,11 +2,6 @@ use Rattle.lfj.proofs.Words.{text-refused, text-accepted}
 use borrow.Author.Needs.{needs}
 use Rattle.lfj.proofs.lfj_goal_text.Statement.{statement}
 use Rattle.lfj.proofs.lfj_goal_text.Tie as tie
-use Rattle.lfj.proofs.lfj_goal_text.Reads as reads
-use Rattle.lfj.proofs.lfj_goal_text.Lts as lts
-use Rattle.annotator.proofs.find_text.Reads as find-text-reads
-use Rattle.lfj.proofs.low.Reads as low-reads
-use Rattle.lfj.proofs.refused.Reads as refused-reads
 
 find-text-requires : tie.Need-find-text-requires
 find-text-requires c κs = search needs
@@ -30,10 +25,10 @@ add-result : tie.Need-add-result
 add-result c = search needs
 
 returns : tie.Need-returns
-returns c = text-refused _ (c .before .before .before .before .find-text .ensures) (c .before .before .r .given .1) (c .refused .ensures)
+returns c = text-refused (c .before .before .before .before .find-text .ensures) _ (c .before .before .r .given .1) (c .refused .ensures)
 
 returns-2 : tie.Need-returns-2
-returns-2 c = text-accepted _ (c .before .before .before .before .find-text .ensures) (c .before .before .s .given .1) (c .low .ensures)
+returns-2 c = text-accepted (c .before .before .before .before .find-text .ensures) _ (c .before .before .s .given .1) (c .low .ensures)
 
 pub lfj-goal-text-spec : {M : Type 1} → statement M
 lfj-goal-text-spec =

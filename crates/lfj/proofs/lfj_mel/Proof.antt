@@ -2,11 +2,6 @@ use Rattle.lfj.proofs.Words.{mel-refused, mel-accepted}
 use borrow.Author.Needs.{needs}
 use Rattle.lfj.proofs.lfj_mel.Statement.{statement}
 use Rattle.lfj.proofs.lfj_mel.Tie as tie
-use Rattle.lfj.proofs.lfj_mel.Reads as reads
-use Rattle.lfj.proofs.lfj_mel.Lts as lts
-use Rattle.annotator.proofs.mel.Reads as mel-reads
-use Rattle.lfj.proofs.low.Reads as low-reads
-use Rattle.lfj.proofs.refused.Reads as refused-reads
 
 mel-requires : tie.Need-mel-requires
 mel-requires c κs = search needs
@@ -27,13 +22,13 @@ same-length : tie.Need-same-length
 same-length c = search needs
 
 returns : tie.Need-returns
-returns c = (mel-refused _ (c .before .before .before .before .before .before .mel .ensures .0) (c .before .before .r .given .1) (c .refused .ensures), c .before .before .before .before .before .before .mel .ensures .1)
+returns c = (mel-refused (c .before .before .before .before .before .before .mel .ensures .0) _ (c .before .before .r .given .1) (c .refused .ensures), c .before .before .before .before .before .before .mel .ensures .1)
 
 same-length-2 : tie.Need-same-length-2
 same-length-2 c = search needs
 
 returns-2 : tie.Need-returns-2
-returns-2 c = (mel-accepted _ (c .before .before .before .before .before .before .mel .ensures .0) (c .before .before .n .given .1) (c .low .ensures), c .before .before .before .before .before .before .mel .ensures .1)
+returns-2 c = (mel-accepted (c .before .before .before .before .before .before .mel .ensures .0) _ (c .before .before .n .given .1) (c .low .ensures), c .before .before .before .before .before .before .mel .ensures .1)
 
 pub lfj-mel-spec : {M : Type 1} → statement M
 lfj-mel-spec =

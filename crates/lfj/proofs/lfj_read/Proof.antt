@@ -2,10 +2,6 @@ use Rattle.lfj.proofs.Words.{read-refused, read-accepted}
 use borrow.Author.Needs.{needs}
 use Rattle.lfj.proofs.lfj_read.Statement.{statement}
 use Rattle.lfj.proofs.lfj_read.Tie as tie
-use Rattle.lfj.proofs.lfj_read.Reads as reads
-use Rattle.lfj.proofs.lfj_read.Lts as lts
-use Rattle.annotator.proofs.read.Reads as read-reads
-use Rattle.lfj.proofs.refused.Reads as refused-reads
 
 read-requires : tie.Need-read-requires
 read-requires c κs = search needs
@@ -20,10 +16,10 @@ enum-known-n : tie.Need-enum-known-n
 enum-known-n c = search needs
 
 returns : tie.Need-returns
-returns c = read-refused _ (c .before .before .before .before .read .ensures) (c .before .before .r .given .1) (c .refused .ensures)
+returns c = read-refused (c .before .before .before .before .read .ensures) _ (c .before .before .r .given .1) (c .refused .ensures)
 
 returns-2 : tie.Need-returns-2
-returns-2 c = read-accepted _ (c .before .before .before .read .ensures) (c .before .n .given .1)
+returns-2 c = read-accepted (c .before .before .before .read .ensures) _ (c .before .n .given .1)
 
 pub lfj-read-spec : {M : Type 1} → statement M
 lfj-read-spec =

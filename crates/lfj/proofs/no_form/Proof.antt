@@ -3,8 +3,6 @@ use Rattle.lfj.specs.Words.{formWord, refusalWord}
 use borrow.Author.Needs.{needs}
 use Rattle.lfj.proofs.no_form.Statement.{statement}
 use Rattle.lfj.proofs.no_form.Tie as tie
-use Rattle.lfj.proofs.no_form.Reads as reads
-use Rattle.lfj.proofs.no_form.Lts as lts
 
 mul-low : tie.Need-mul-low
 mul-low c = search needs

@@ -3,9 +3,6 @@ use Rattle.lfj.specs.Words.{refusalWord}
 use borrow.Author.Needs.{needs}
 use Rattle.lfj.proofs.refused.Statement.{statement}
 use Rattle.lfj.proofs.refused.Tie as tie
-use Rattle.lfj.proofs.refused.Reads as reads
-use Rattle.lfj.proofs.refused.Lts as lts
-use Rattle.lfj.proofs.low.Reads as low-reads
 
 cast-number : tie.Need-cast-number
 cast-number c = search needs

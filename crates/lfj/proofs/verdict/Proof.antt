@@ -2,8 +2,6 @@ use Rattle.lfj.proofs.Words.{same-word, differs-word}
 use borrow.Author.Needs.{needs}
 use Rattle.lfj.proofs.verdict.Statement.{statement}
 use Rattle.lfj.proofs.verdict.Tie as tie
-use Rattle.lfj.proofs.verdict.Reads as reads
-use Rattle.lfj.proofs.verdict.Lts as lts
 
 enum-told : tie.Need-enum-told
 enum-told c = search needs

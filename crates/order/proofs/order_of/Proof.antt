@@ -2,7 +2,8 @@ use borrow.Author.Needs.{needs}
 use mathlib.Core.Path.{ap, _∙_}
 use denote.Ref.{now}
 use Rattle.graph.specs.Closure.{closing}
-use Rattle.order.proofs.Record.{waiting-graph, waiting-closed}
+use Rattle.order.specs.Arrays.{orderRows}
+use Rattle.order.proofs.Decoded.{waits-graph}
 use Rattle.order.proofs.order_of.Statement.{statement}
 use Rattle.order.proofs.order_of.Tie as tie
 
@@ -11,13 +12,13 @@ waits-of-requires c κs = search needs
 
 closed-requires : tie.Need-closed-requires
 closed-requires c κs =
-    let s = c .before .before in
-    rw (c .waits-of .ensures) (waiting-graph (now (s .args .b)) (s .pre .0))
+    let s = c .before in
+    let a = s .args in
+    rw (c .waits-of .ensures) (waits-graph (a .n) (now (a .sets)) (now (a .grounds)) (now (a .listed)) (s .pre))
 
 returns : tie.Need-returns
-returns c =
-    let s = c .before .before .before in
-    c .closed .ensures ∙ ap closing (c .before .waits-of .ensures) ∙ waiting-closed (now (s .args .b)) (s .pre .0)
+unfolding orderRows
+returns c = c .closed .ensures ∙ ap closing (c .before .waits-of .ensures)
 
 pub order-of-spec : {M : Type 1} → statement M
 order-of-spec = tie.close (tie.spec waits-of-requires closed-requires returns)

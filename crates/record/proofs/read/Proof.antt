@@ -1,26 +1,23 @@
 use mathlib.Core.Path.{sym, _∙_}
 use mathlib.Core.Logic.{⊎-elim}
-use native.Mathlib.Omega.{arith}
-use lib.ListN.{length}
-use borrow.Author.Tests.{leb-true}
 use borrow.Author.Needs.{needs}
 use denote.Ref.{now}
-use Rattle.reading.proofs.Fine.{header-go, header-stop}
-use Rattle.header.proofs.Steps.{header-short}
+use Rattle.record_rules.proofs.Fine.{header-go, header-stop}
+use Rattle.record_header.proofs.HeaderSteps.{header-short}
 use Rattle.record.proofs.read.Statement.{statement}
 use Rattle.record.proofs.read.Tie as tie
 
 size-fine-requires : tie.Need-size-fine-requires
 size-fine-requires c κs = search needs
 
-whole-set-requires : tie.Need-whole-set-requires
-whole-set-requires c κs = let h = leb-true 24 (length (now (c .before .before .before .args .b))) (sym (c .before .size-fine .ensures) ∙ c .if1 .taken) in omega (arith, h)
+head-set-requires : tie.Need-head-set-requires
+head-set-requires c κs = search needs
 
-whole-set-requires-2 : tie.Need-whole-set-requires-2
-whole-set-requires-2 c κs = let h = leb-true 24 (length (now (c .before .before .before .before .args .b))) (sym (c .before .before .size-fine .ensures) ∙ c .before .if1 .taken) in omega (arith, h)
+ground-set-requires : tie.Need-ground-set-requires
+ground-set-requires c κs = search needs
 
 header-fine-requires : tie.Need-header-fine-requires
-header-fine-requires c κs = (c .before .whole-set .ensures, c .whole-set2 .ensures)
+header-fine-requires c κs = (c .before .head-set .ensures, c .ground-set .ensures)
 
 rest-requires : tie.Need-rest-requires
 rest-requires c κs = search needs
@@ -39,4 +36,4 @@ returns-2 c =
 
 pub read-spec : {M : Type 1} → statement M
 read-spec =
-    tie.close (tie.spec size-fine-requires whole-set-requires whole-set-requires-2 header-fine-requires rest-requires returns header-requires returns-2)
+    tie.close (tie.spec size-fine-requires head-set-requires ground-set-requires header-fine-requires rest-requires returns header-requires returns-2)

@@ -3,7 +3,7 @@ use mathlib.Core.Path.{_≡_, ap}
 use native.Mathlib.Omega.{arith}
 use lib.Pow.{pow-pos}
 use Rattle.sets.specs.Sets.{below}
-use Rattle.sets.proofs.Laws.{shl-single}
+use Rattle.sets.proofs.Membership.{shl-single}
 use borrow.Author.Needs.{needs}
 use Rattle.sets.proofs.below32.Statement.{statement}
 use Rattle.sets.proofs.below32.Tie as tie

@@ -1,4 +1,4 @@
-use Rattle.sets.proofs.Laws.{shl-single}
+use Rattle.sets.proofs.Membership.{shl-single}
 use borrow.Author.Needs.{needs}
 use Rattle.sets.proofs.single32.Statement.{statement}
 use Rattle.sets.proofs.single32.Tie as tie

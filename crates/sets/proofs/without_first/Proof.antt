@@ -1,5 +1,5 @@
 use borrow.Author.Needs.{needs}
-use Rattle.sets.proofs.Laws.{drop-first}
+use Rattle.sets.proofs.Membership.{drop-first}
 use Rattle.sets.proofs.without_first.Statement.{statement}
 use Rattle.sets.proofs.without_first.Tie as tie
 

@@ -1,6 +1,6 @@
 use native.Mathlib.Omega.{arith}
 use borrow.Author.Needs.{needs}
-use Rattle.sets.proofs.Laws.{drop-first}
+use Rattle.sets.proofs.Membership.{drop-first}
 use Rattle.sets.proofs.without_first32.Statement.{statement}
 use Rattle.sets.proofs.without_first32.Tie as tie
 

@@ -1,1 +1,0 @@
-// Whole arrays as tables: definition in specs/, laws in proofs/.

@@ -1,0 +1,2 @@
+pub mod GoalSets
+pub mod PairRows

@@ -1,0 +1,59 @@
+use mathlib.Core.Path.{_≡_}
+use mathlib.Core.List.{List}
+use Prim.Native.Nat.{ℕ}
+use borrow.Author.Needs.{needs}
+use denote.Ref.{now}
+use Rattle.record_fields.specs.Fields as F
+use Rattle.clause.specs.declared.Clause.{Clause}
+use Rattle.clause.specs.Clause.{goalSets, groundSets, pairRows, decoded}
+use Rattle.clause.proofs.decode.Statement.{statement}
+use Rattle.clause.proofs.decode.Tie as tie
+
+goal-count-requires : tie.Need-goal-count-requires
+goal-count-requires c κs = search needs
+
+var-count-requires : tie.Need-var-count-requires
+var-count-requires c κs = search needs
+
+cast-v : tie.Need-cast-v
+cast-v c = search needs
+
+pair-count-requires : tie.Need-pair-count-requires
+pair-count-requires c κs = search needs
+
+head-set-requires : tie.Need-head-set-requires
+head-set-requires c κs = search needs
+
+take-goals-requires : tie.Need-take-goals-requires
+take-goals-requires c κs = search needs
+
+take-pairs-requires : tie.Need-take-pairs-requires
+take-pairs-requires c κs = search needs
+
+-- the clause, field by field
+fields : (b : List ℕ) (n v p head : ℕ) (sets grounds listed : List ℕ) → n ≡ F.goalCount b → v ≡ F.varCount b → p ≡ F.pairCount b → head ≡ F.headSet b
+    → sets ≡ goalSets 32 b → grounds ≡ groundSets 32 b → listed ≡ pairRows 64 b
+    → _≡_ {A = Clause} (record { n = n; v = v; p = p; head = head; sets = sets; grounds = grounds; listed = listed }) (decoded b)
+unfolding decoded
+fields b n v p head sets grounds listed en ev ep eh es eg el = rw (en, ev, ep, eh, es, eg, el)
+
+returns : tie.Need-returns
+returns c =
+    let t = c .before .before in
+    let h = t .before .before .before in
+    fields (now (h .before .before .before .before .before .args .b)) _ _ _ _ _ _ _ (h .before .before .before .goal-count .ensures .0)
+    (h .before .before .var-count .ensures .0) (h .before .pair-count .ensures .0) (h .head-set .ensures) (t .take-goals .ensures .1 .0)
+    (t .take-goals .ensures .1 .1) (c .take-pairs .ensures)
+
+pub decode-spec : {M : Type 1} → statement M
+decode-spec =
+    tie.close
+    (tie.spec
+    goal-count-requires
+    var-count-requires
+    cast-v
+    pair-count-requires
+    head-set-requires
+    take-goals-requires
+    take-pairs-requires
+    returns)

@@ -1,0 +1,120 @@
+use Prim.Native.Nat.{ℕ, _≤_, _<_, _+_, _*_, _-_}
+use mathlib.Core.Path.{_≡_, sym, ap, ap₂, _∙_, subst}
+use native.Mathlib.Omega.{arith}
+use borrow.Author.Needs.{needs}
+use denote.Ref.{now}
+use lib.ListN.{length}
+use Rattle.record_fields.specs.Fields as F
+use Rattle.record_fields.proofs.Places.{place-zero, place-turn}
+use Rattle.record.proofs.Limits.{goal-there, place-limit}
+use Rattle.clause.proofs.GoalSets.{setsAfter, sets-zero, sets-more, sets-all, groundsAfter, grounds-zero, grounds-more, grounds-all}
+use Rattle.clause.proofs.take_goals.Statement.{statement}
+use Rattle.clause.proofs.take_goals.Tie as tie
+
+abbrev Inv-loop : tie.InvT-loop
+Inv-loop b n sets₀ grounds₀ ground at₀ g₀ sets grounds at g = (g ≤ n) × (at ≡ F.placeAfter b g) × (sets ≡ setsAfter 32 b g) × (grounds ≡ groundsAfter 32 b g)
+
+abbrev μ-loop : tie.MeasureT-loop
+μ-loop b n sets₀ grounds₀ ground at₀ g₀ sets grounds at g = n - g
+
+-- the goal is there
+there : (c : tie.In-loop Inv-loop μ-loop)
+    → let l = c .before .loop in
+    let b = now (c .before .before .before .before .args .b) in
+    (l .g < 32) × (l .at < 2000) × (F.goalEnd b (l .at) ≤ length b)
+there c =
+    let l = c .before .loop in
+    let s = c .before .before .before .before in
+    let b = now (s .args .b) in
+    let w = s .pre .0 in
+    let e = s .pre .1 in
+    let h = w .goals-to in
+    let m : l .g < F.goalCount b = omega (arith, e) in
+    let limit = place-limit b w (l .g) (omega arith) in
+    (omega arith, omega (arith, l .inv .1), subst (λ (x : ℕ). F.goalEnd b x ≤ length b) (sym (l .inv .1)) (goal-there b w (l .g) m))
+
+ground-set-requires : tie.Need-ground-set-requires Inv-loop μ-loop
+ground-set-requires c κs = search needs
+
+loop-holds : tie.Need-loop-holds Inv-loop μ-loop
+loop-holds c = let s = c .before .before in (omega arith, place-zero _, s .pre .2 ∙ sets-zero 32 _, s .pre .3 ∙ grounds-zero 32 _)
+
+whole-set-requires : tie.Need-whole-set-requires Inv-loop μ-loop
+whole-set-requires c κs = omega (arith, there c)
+
+mul-sets : tie.Need-mul-sets Inv-loop μ-loop
+mul-sets c = omega (arith, there (c .before))
+
+element-write-sets : tie.Need-element-write-sets Inv-loop μ-loop
+element-write-sets c = omega (arith, there (c .before))
+
+mul-grounds : tie.Need-mul-grounds Inv-loop μ-loop
+mul-grounds c = omega (arith, there (c .before))
+
+element-write-grounds : tie.Need-element-write-grounds Inv-loop μ-loop
+element-write-grounds c = omega (arith, there (c .before))
+
+length-at-requires : tie.Need-length-at-requires Inv-loop μ-loop
+length-at-requires c κs = omega (arith, there (c .before))
+
+shared-slice-read-size-of : tie.Need-shared-slice-read-size-of Inv-loop μ-loop
+shared-slice-read-size-of c = omega (arith, there (c .before .before .before))
+
+size-of-requires : tie.Need-size-of-requires Inv-loop μ-loop
+size-of-requires c κs = search needs
+
+text-at-requires : tie.Need-text-at-requires Inv-loop μ-loop
+text-at-requires c κs = omega (arith, there (c .before .before .before .before))
+
+add-at : tie.Need-add-at Inv-loop μ-loop
+add-at c = omega (arith, there (c .before .before .before .before .before))
+
+add-g : tie.Need-add-g Inv-loop μ-loop
+add-g c = omega (arith, there (c .before .before .before .before .before))
+
+loop-less : tie.Need-loop-less Inv-loop μ-loop
+loop-less c = omega arith
+
+loop-again : tie.Need-loop-again Inv-loop μ-loop
+loop-again c =
+    let i = c .before .before .before .before .before in
+    let l = i .before .loop in
+    let b = now (i .before .before .before .before .args .b) in
+    let h = there i .0 in
+    let text = c .before .size-of .ensures .0 ∙ ap (F.byte b) (c .before .before .before .length-at .ensures) in (
+      omega arith,
+      ap₂ _+_ (c .text-at .ensures) text ∙ place-turn b (l .g) (l .at) (l .inv .1),
+      sets-more 32 b (l .g) (l .at) (l .sets) _ h (l .inv .2) (l .inv .1) (c .before .before .before .before .whole-set .ensures),
+      grounds-more 32 b (l .g) (l .grounds) _ h (l .inv .3) (i .before .before .ground-set .ensures),
+    )
+
+returns : tie.Need-returns Inv-loop μ-loop
+returns c =
+    let l = c .before .loop in
+    let s = c .before .before .before .before in
+    let b = now (s .args .b) in
+    let e : l .g ≡ F.goalCount b = omega (arith, s .pre .1) in
+    (l .inv .1 ∙ ap (F.placeAfter b) e, (l .inv .2 ∙ sets-all 32 b (l .g) e, l .inv .3 ∙ grounds-all 32 b (l .g) e))
+
+pub take-goals-spec : {M : Type 1} → statement M
+take-goals-spec =
+    tie.close
+    (tie.spec
+    Inv-loop
+    μ-loop
+    ground-set-requires
+    loop-holds
+    whole-set-requires
+    mul-sets
+    element-write-sets
+    mul-grounds
+    element-write-grounds
+    length-at-requires
+    shared-slice-read-size-of
+    size-of-requires
+    text-at-requires
+    add-at
+    add-g
+    loop-less
+    loop-again
+    returns)

@@ -1,0 +1,15 @@
+use borrow.Author.Needs.{needs}
+use Rattle.expression_reading.proofs.refused.Statement.{statement}
+use Rattle.expression_reading.proofs.refused.Tie as tie
+use Rattle.expression_reading.proofs.refused.Reads as reads
+use Rattle.expression_reading.proofs.refused.Lts as lts
+use Rattle.graph.proofs.Graph.empty.Reads as empty-reads
+
+empty-requires : tie.Need-empty-requires
+empty-requires c κs = search needs
+
+returns : tie.Need-returns
+returns c = rw (c .empty .ensures)
+
+pub refused-spec : {M : Type 1} → statement M
+refused-spec = tie.close (tie.spec empty-requires returns)

@@ -1,0 +1,2 @@
+pub mod FirstN
+pub mod Candidates

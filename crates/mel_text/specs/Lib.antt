@@ -1,0 +1,2 @@
+pub mod CheckTexts
+pub mod StageTexts

@@ -1,0 +1,86 @@
+-- The waits and the order of a decoded clause are those of its record.
+use mathlib.Core.Path.{_≡_, refl, sym, ap, ap₂, _∙_}
+use mathlib.Core.Bool.{Bool, true, false, _&&_}
+use mathlib.Core.List.{List}
+use Prim.Native.Nat.{ℕ, suc, compare·suc-suc, _≤_, _<_}
+use native.Mathlib.Omega.{arith}
+use lib.Dec.{ltb, isLe}
+use lib.ListN.{getD}
+use borrow.Author.Tests.{le-leb}
+use Rattle.sets.proofs.Builder.{setOf-cong}
+use Rattle.logic.proofs.Table.{table-cong}
+use Rattle.graph.specs.Closure.{IsGraph, closing}
+use Rattle.graph.specs.Graph.{goalsOf, rowsOf}
+use Rattle.graph.specs.declared.Graph.{Graph}
+use Rattle.graph.proofs.Closure.{closing-of}
+use Rattle.graph.proofs.Rows.{rows-within}
+use Rattle.independence.specs.ByRows.{waitsBy}
+use Rattle.independence.proofs.Listed.{waits-listed}
+use Rattle.clause.specs.declared.Clause.{Clause}
+use Rattle.clause.specs.Clause.{goalSets, groundSets, pairRows, decoded}
+use Rattle.clause.proofs.GoalSets.{goal-at, ground-at}
+use Rattle.clause.proofs.PairRows.{pair-at}
+use Rattle.record_fields.specs.Facts.{groundAt, freeAt}
+use Rattle.record_fields.specs.Fields.{goalCount, goalSet, listed}
+use Rattle.record.specs.WellFormed.{WellFormed}
+use Rattle.order.specs.Order.{earlier, waits, before, order}
+use Rattle.order.specs.Arrays.{waitsAt, waitsIn, waitRows, orderRows, waiting}
+
+-- goals counted from 0
+earlier-at : (n i j : ℕ) → j < n → ltb i j ≡ earlier n (suc i) (suc j)
+earlier-at n i j h =
+    sym
+    (ap₂ _&&_ (ap₂ _&&_ (le-leb 1 (suc i) (omega arith)) (ap isLe (compare·suc-suc (suc i) j))) (le-leb (suc j) n h)
+    ∙ and-true (ltb i j))
+  where
+    and-true : (p : Bool) → (true && p) && true ≡ p
+    and-true true = refl
+    and-true false = refl
+
+module _ (n : ℕ) (sets grounds listed : List ℕ) (h : n ≤ 32) where
+  -- the waits of a clause are a graph
+  pub waits-graph : IsGraph (waitRows 64 n sets grounds listed)
+  unfolding waitRows
+  waits-graph = (h, rows-within 32 n (waitsIn 64 0 sets grounds listed) h)
+
+module _ (b : List ℕ) (w : WellFormed b) where
+  few : goalCount b ≤ 32
+  few = w .goals-to
+
+  waits-at : (i j : ℕ) → i < goalCount b → j < goalCount b
+      → waitsAt 64 0 (goalSets 32 b) (groundSets 32 b) (pairRows 64 b) i j ≡ waits b (suc i) (suc j)
+  unfolding waits
+  waits-at i j li lj =
+      ap₂ _&&_ (earlier-at (goalCount b) i j lj)
+      (ap (λ (g : ℕ). waitsBy g 0 (pairRows 64 b) 64 (getD (goalSets 32 b) i 0) (getD (goalSets 32 b) j 0)) (ground-at 32 b i few li)
+      ∙ ap₂ (λ (x : ℕ) (y : ℕ). waitsBy (groundAt b (suc i)) (freeAt b (suc i)) (pairRows 64 b) 64 x y) (goal-at 32 b i few li) (goal-at 32 b j few lj)
+      ∙ waits-listed (groundAt b (suc i)) (freeAt b (suc i)) (pairRows 64 b) (listed b) 64 (goalSet b (suc i)) (goalSet b (suc j)) (pair-at 64 b))
+
+  pub waits-decoded : waitRows 64 (goalCount b) (goalSets 32 b) (groundSets 32 b) (pairRows 64 b) ≡ waiting b
+  unfolding waitRows waiting rowsOf goalsOf
+  waits-decoded =
+      ap (λ (l : List ℕ). record { n = goalCount b; rows = l })
+      (table-cong 32 (goalCount b) _ (λ i. goalsOf (goalCount b) (waits b (suc i)))
+      (λ i l. setOf-cong (goalCount b) _ (λ j. waits b (suc i) (suc j)) (λ j k. waits-at i j l k)))
+
+  pub order-decoded : orderRows 64 (goalCount b) (goalSets 32 b) (groundSets 32 b) (pairRows 64 b) ≡ order b
+  unfolding orderRows waiting order before
+  order-decoded = ap closing waits-decoded ∙ closing-of (goalCount b) (waits b) few
+
+-- the same of a clause that was decoded
+module _ (b : List ℕ) (w : WellFormed b) (c : Clause) (e : c ≡ decoded b) where
+  pub clause-few : c .n ≤ 32
+  unfolding decoded
+  clause-few = omega (arith, ap (λ (x : Clause). x .n) e, w .goals-to)
+
+  pub clause-count : c .n ≡ goalCount b
+  unfolding decoded
+  clause-count = ap (λ (x : Clause). x .n) e
+
+  pub clause-waits : {g : Graph} → g ≡ waitRows 64 (c .n) (c .sets) (c .grounds) (c .listed) → g ≡ waiting b
+  unfolding decoded
+  clause-waits h = h ∙ ap (λ (x : Clause). waitRows 64 (x .n) (x .sets) (x .grounds) (x .listed)) e ∙ waits-decoded b w
+
+  pub clause-order : {g : Graph} → g ≡ orderRows 64 (c .n) (c .sets) (c .grounds) (c .listed) → g ≡ order b
+  unfolding decoded
+  clause-order h = h ∙ ap (λ (x : Clause). orderRows 64 (x .n) (x .sets) (x .grounds) (x .listed)) e ∙ order-decoded b w

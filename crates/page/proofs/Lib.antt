@@ -1,4 +1,0 @@
-pub mod Lines
-pub mod Plans
-pub mod Mel
-pub mod Whole

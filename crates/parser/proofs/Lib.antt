@@ -1,3 +1,0 @@
-pub mod Tells
-pub mod Joins
-pub mod Primaries

@@ -1,3 +1,0 @@
-pub mod Must
-pub mod Text
-pub mod Fine

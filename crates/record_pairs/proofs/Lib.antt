@@ -1,0 +1,2 @@
+pub mod PairTurns
+pub mod LastStep

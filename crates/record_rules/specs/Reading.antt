@@ -1,0 +1,109 @@
+-- Reading a clause record (01, "Reading the record, which starts every operation"): one line for each sentence, in the paper's order. The first refusal wins.
+use mathlib.Core.Bool.{Bool, true, false, _&&_, cond}
+use mathlib.Core.List.{List}
+use Prim.Native.Nat.{ℕ, zero, suc, _+_}
+use lib.Dec.{eqb, ltb, leb}
+use lib.ListN.{length}
+use Rattle.sets.specs.Sets.{goalLimit, variableLimit, within, subset}
+use Rattle.record_rules.specs.declared.Reading.{Reading}
+use Rattle.record_rules.specs.declared.Reading.the-variants.{Fine, Refused}
+use Rattle.record_fields.specs.Fields.{byte, number, set, mark, version, goalCount, varCount, pairCount, headSet, groundSet, headerSize, lengthAt, textAt, textLengthAt, goalEnd, placeAfter, pairAt}
+
+infixl 20 _must_else_place_
+-- Reading so far, and one thing more that must hold: else refusal k at a place. The first refusal stays.
+unfoldable pub _must_else_place_ : Reading → Bool → ℕ → ℕ → Reading
+_must_else_place_ Fine true k p = Fine
+_must_else_place_ Fine false k p = Refused (record { number = k; place = p })
+_must_else_place_ (Refused r) t k p = Refused r
+
+abbrev pub between : ℕ → ℕ → ℕ → Bool
+between low high x = leb low x && leb x high
+
+-- 01: "1 below 24 bytes (place: the length); 2 mark (0); 3 version (3); 4 goal count (5); 5 variable count (6)"
+unfoldable pub counts : (ℕ → Bool) → List ℕ → Reading
+counts isVersion b =
+    Fine
+    must leb headerSize (length b) else 1 place length b
+    must eqb (mark b) 0x4C464A else 2 place 0
+    must isVersion (version b) else 3 place 3
+    must between 1 goalLimit (goalCount b) else 4 place 5
+    must leb (varCount b) variableLimit else 5 place 6
+
+-- 01: "6 a head bit at or above v (8)"
+abbrev pub head : List ℕ → Reading → Reading
+head b s = s must within (varCount b) (headSet b) else 6 place 8
+
+-- 01: "else a ground bit outside the head (16)"
+abbrev pub ground : List ℕ → Reading → Reading
+ground b s = s must subset (groundSet b) (headSet b) else 6 place 16
+
+unfoldable pub header : (ℕ → Bool) → List ℕ → Reading
+header isVersion b = ground b (head b (counts isVersion b))
+
+-- 01: "one length byte (1 to 40)"
+abbrev pub textLimit : ℕ
+textLimit = 40
+
+-- 01: "that many text bytes, each 33 to 126": the first of the k bytes from a place on that is none, or the place after them
+unfoldable pub firstBad : List ℕ → ℕ → ℕ → ℕ
+firstBad b at zero = at
+firstBad b at (suc k) = cond (between 33 126 (byte b at)) (firstBad b (suc at) k) at
+
+abbrev pub badText : List ℕ → ℕ → ℕ
+badText b at = firstBad b (textAt b at) (textLengthAt b at)
+
+-- 01: "For each goal in turn: 7 its nine fixed bytes are incomplete (the record length, as for every 7); 8 a bit at or above v (start of its set); 9 length
+-- (the length byte); 7 text incomplete; 9 the first bad text byte". The goal starts at a place.
+unfoldable pub goal : List ℕ → ℕ → Reading → Reading
+goal b at s =
+    s
+    must leb (textAt b at) (length b) else 7 place length b
+    must within (varCount b) (set b at) else 8 place at
+    must between 1 textLimit (textLengthAt b at) else 9 place lengthAt b at
+    must leb (goalEnd b at) (length b) else 7 place length b
+    must eqb (badText b at) (goalEnd b at) else 9 place badText b at
+
+-- the first g goals, in turn
+unfoldable pub goals : List ℕ → ℕ → Reading → Reading
+goals b zero s = s
+goals b (suc g) s = goal b (placeAfter b g) (goals b g s)
+
+-- "lower then higher", and "below v"
+unfoldable pub ordered : List ℕ → ℕ → Bool
+ordered b at = ltb (byte b at) (byte b (at + 1)) && ltb (byte b (at + 1)) (varCount b)
+
+-- 01: "pairs strictly ascending by first then second": pair k comes after the one before it
+unfoldable pub ascends : List ℕ → ℕ → Bool
+ascends b zero = true
+ascends b (suc k) = ltb (number b (pairAt b k) 2) (number b (pairAt b (suc k)) 2)
+
+-- 01: "For each pair: 7 incomplete; 10 not lower then higher, not below v or not ascending (its first byte)"
+unfoldable pub pair : List ℕ → ℕ → Reading → Reading
+pair b k s =
+    s
+    must leb (pairAt b k + 2) (length b) else 7 place length b
+    must ordered b (pairAt b k) && ascends b k else 10 place pairAt b k
+
+-- the first k pairs, in turn
+unfoldable pub pairs : List ℕ → ℕ → Reading → Reading
+pairs b zero s = s
+pairs b (suc k) s = pair b k (pairs b k s)
+
+-- 01: "Last, 11 for bytes left over (the first of them)"
+abbrev pub end : List ℕ → Reading → Reading
+end b s = s must eqb (pairAt b (pairCount b)) (length b) else 11 place pairAt b (pairCount b)
+
+-- the pairs and the end
+unfoldable pub ending : List ℕ → Reading → Reading
+ending b s = end b (pairs b (pairCount b) s)
+
+-- the whole record, where the versions of which a test holds are accepted
+unfoldable pub readingOf : (ℕ → Bool) → List ℕ → Reading
+readingOf isVersion b = ending b (goals b (goalCount b) (header isVersion b))
+
+-- 01: "version, 1"
+unfoldable pub versionOne : ℕ → Bool
+versionOne v = eqb v 1
+
+unfoldable pub reading : List ℕ → Reading
+reading b = readingOf versionOne b

@@ -1,0 +1,4 @@
+pub mod Lines
+pub mod Forms
+pub mod Mel
+pub mod Sheet
