@@ -1,2 +1,3 @@
 pub mod GoalSets
 pub mod PairRows
+pub mod Decoded

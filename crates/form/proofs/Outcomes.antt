@@ -8,7 +8,7 @@ use lib.ListN.{length}
 use Rattle.record_rules.specs.declared.Reading.the-variants.{Fine, Refused}
 use Rattle.record_rules.specs.declared.Refusal.{Refusal}
 use Rattle.record_rules.specs.Reading.{reading}
-use Rattle.record_rules.specs.Outcome.{Outcome, refused, accepted, sizeIn, bufferAfter, values}
+use Rattle.record_rules.specs.Outcome.{Outcome, refused, accepted, sizeIn, values}
 use Rattle.record_rules.proofs.Outcomes.{read-refused, read-fine, size-fits}
 use Rattle.record_fields.specs.Fields.{goalCount}
 use Rattle.expression.specs.Search.{Four}
@@ -42,13 +42,6 @@ module _ (b : List ℕ) where
   pub shown-fine : reading b ≡ Fine → shown b ≡ firstFour b
   unfolding shown
   shown-fine e = sym (ap (λ (o : Outcome (Option Four)). values none o .value) (read-fine b _ refl e))
-
--- ---- the same outcome for a buffer
-pub same-answer : {x y : Outcome (List ℕ)} (buf : List ℕ) → x ≡ y → sizeIn x buf ≡ sizeIn y buf
-same-answer buf e = ap (λ (o : Outcome (List ℕ)). sizeIn o buf) e
-
-pub same-buffer : {x y : Outcome (List ℕ)} (buf : List ℕ) → x ≡ y → bufferAfter x buf ≡ bufferAfter y buf
-same-buffer buf e = ap (λ (o : Outcome (List ℕ)). bufferAfter o buf) e
 
 -- ---- the estimate: the length of a text that is written into a buffer which holds it
 pub estimated : (x : Outcome (List ℕ)) {o : Outcome ℕ} (buf : List ℕ) → o ≡ sizeIn x buf → length buf ≤ 160

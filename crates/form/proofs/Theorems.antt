@@ -38,10 +38,10 @@ use Rattle.record_rules.specs.declared.Reading.{Reading}
 use Rattle.record_rules.specs.declared.Reading.the-variants.{Fine, Refused}
 use Rattle.record_rules.specs.Reading.{reading}
 use Rattle.record_rules.specs.Outcome.{Outcome, refused, accepted, onlyIf, sizeIn}
-use Rattle.record_rules.proofs.Outcomes.{told-apart, one-value, size-fits, size-short, buffer-short}
+use Rattle.record_rules.proofs.Outcomes.{told-apart, one-value, size-fits, size-short, buffer-short, same-answer, same-buffer}
 use Rattle.form.specs.Form.{orThirteen, formText, formAnswer, Estimated}
 use Rattle.form.specs.Demand.{Expresses, FourGoals, OneOf, ExpressesFour, NoForm, HasForm, Demand}
-use Rattle.form.proofs.Outcomes.{thirteen-none, thirteen-some, form-refused, form-fine, shown-fine, same-answer, same-buffer, estimated}
+use Rattle.form.proofs.Outcomes.{thirteen-none, thirteen-some, form-refused, form-fine, shown-fine, estimated}
 
 -- 13 is answered for an N alone: else a text is written, or 12 answered
 only-thirteen : (o : Option Four) (t buf : List ℕ) → sizeIn (orThirteen o t) buf ≡ refused 13 0 → (q : Four) × (o ≡ some q)

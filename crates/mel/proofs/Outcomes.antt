@@ -6,7 +6,7 @@ use Rattle.record_rules.specs.declared.Reading.the-variants.{Fine, Refused}
 use Rattle.record_rules.specs.declared.Refusal.{Refusal}
 use Rattle.record_rules.specs.Reading.{reading}
 use Rattle.record_rules.specs.Outcome.{Outcome, refused, accepted, sizeIn, bufferAfter}
-use Rattle.record_rules.proofs.Outcomes.{read-refused, read-fine}
+use Rattle.record_rules.proofs.Outcomes.{read-refused, read-fine, same-answer, same-buffer}
 use Rattle.mel.specs.Annotation.{mel, melOutcome, melAnswer, melBuffer}
 
 module _ (b : List ℕ) where
@@ -20,14 +20,14 @@ module _ (b : List ℕ) where
 
   module _ (buf : List ℕ) where
     pub refused-answer : (r : Refusal) → reading b ≡ Refused r → refused (r .number) (r .place) ≡ melAnswer b buf
-    refused-answer r e = sym (ap (λ (o : Outcome (List ℕ)). sizeIn o buf) (mel-refused r e))
+    refused-answer r e = sym (same-answer buf (mel-refused r e))
 
     pub refused-buffer : (r : Refusal) → reading b ≡ Refused r → buf ≡ melBuffer b buf
-    refused-buffer r e = sym (ap (λ (o : Outcome (List ℕ)). bufferAfter o buf) (mel-refused r e))
+    refused-buffer r e = sym (same-buffer buf (mel-refused r e))
 
     -- what was answered and stored for the record's text
     pub fine-text : {o : Outcome ℕ} {new t : List ℕ} → (o ≡ sizeIn (accepted t) buf) × (new ≡ bufferAfter (accepted t) buf) → t ≡ mel b → reading b ≡ Fine
         → (o ≡ melAnswer b buf) × (new ≡ melBuffer b buf)
     fine-text (v, n) t e =
         let x = ap accepted t ∙ sym (mel-fine e) in
-        (v ∙ ap (λ (o : Outcome (List ℕ)). sizeIn o buf) x, n ∙ ap (λ (o : Outcome (List ℕ)). bufferAfter o buf) x)
+        (v ∙ same-answer buf x, n ∙ same-buffer buf x)

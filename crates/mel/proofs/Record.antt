@@ -16,6 +16,7 @@ use Rattle.sets.proofs.Builder.{has-setOf-in}
 use Rattle.independence.specs.Independence.{knownIndependent}
 use Rattle.clause.specs.declared.Clause.{Clause}
 use Rattle.clause.specs.Clause.{goalSets, groundSets, pairRows, decoded}
+use Rattle.clause.proofs.Decoded.{clause-count}
 use Rattle.record_fields.specs.Facts.{groundAt, freeAt}
 use Rattle.record_fields.specs.Fields.{goalCount, headSet, goalSet, listed}
 use Rattle.record.specs.WellFormed.{WellFormed}
@@ -104,11 +105,7 @@ module _ (b : List ℕ) (w : WellFormed b) (c : Clause) (e : c ≡ decoded b) wh
   unfolding decoded
   clause-length = ap (λ (x : Clause). length (take (x .n) (x .sets))) e ∙ facts-length b (w .goals-to)
 
-  pub clause-count : c .n ≡ goalCount b
-  unfolding decoded
-  clause-count = ap (λ (x : Clause). x .n) e
-
   pub clause-room : c .n ≤ length (c .sets)
   unfolding decoded goalSets
   clause-room =
-      omega (arith, clause-count, w .goals-to, ap (λ (x : Clause). length (x .sets)) e, table-length 32 (goalCount b) (λ i. goalSet b (suc i)))
+      omega (arith, clause-count b w c e, w .goals-to, ap (λ (x : Clause). length (x .sets)) e, table-length 32 (goalCount b) (λ i. goalSet b (suc i)))

@@ -12,8 +12,8 @@ use Rattle.mel_stages.specs.Plain.{All, Among, goalsOf, Sound, Grounded, Separa
 use Rattle.mel_stages.proofs.Stages.{partition, stages-sound}
 use Rattle.buffer.specs.Lent.{stored}
 use Rattle.buffer.proofs.Lent.{fits-le}
-use Rattle.record_rules.specs.Outcome.{Outcome, refused, accepted, sizeIn, bufferAfter}
-use Rattle.record_rules.proofs.Outcomes.{size-fits, size-short, buffer-short}
+use Rattle.record_rules.specs.Outcome.{refused, accepted}
+use Rattle.record_rules.proofs.Outcomes.{size-fits, size-short, buffer-short, same-answer, same-buffer}
 use Rattle.mel.specs.Annotation.{mel, melOutcome, melAnswer, melBuffer}
 use Rattle.mel.proofs.Outcomes.{mel-fine}
 use Rattle.mel_stages.proofs.Checks.{grounds-listed, listed-grounds, indeps-listed, listed-indeps, checks-ascend}
@@ -49,13 +49,13 @@ module _ (b buf : List ℕ) (w : WellFormed b) where
 
   pub length-named : length buf < length (mel b) → (melAnswer b buf ≡ refused 12 (length (mel b))) × (melBuffer b buf ≡ buf)
   length-named h = (
-    ap (λ (o : Outcome (List ℕ)). sizeIn o buf) e ∙ sym (size-short (mel b) buf refl h),
-    ap (λ (o : Outcome (List ℕ)). bufferAfter o buf) e ∙ sym (buffer-short (mel b) buf h),
+    same-answer buf e ∙ sym (size-short (mel b) buf refl h),
+    same-buffer buf e ∙ sym (buffer-short (mel b) buf h),
   )
 
   pub length-enough : length (mel b) ≤ length buf → (melAnswer b buf ≡ accepted (length (mel b))) × (melBuffer b buf ≡ mel b ++ drop (length (mel b)) buf)
   unfolding stored
   length-enough h = (
-    ap (λ (o : Outcome (List ℕ)). sizeIn o buf) e ∙ sym (size-fits (mel b) buf refl h),
-    ap (λ (o : Outcome (List ℕ)). bufferAfter o buf) e ∙ rw (fits-le (mel b) buf h),
+    same-answer buf e ∙ sym (size-fits (mel b) buf refl h),
+    same-buffer buf e ∙ rw (fits-le (mel b) buf h),
   )

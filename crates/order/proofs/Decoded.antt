@@ -69,14 +69,6 @@ module _ (b : List ℕ) (w : WellFormed b) where
 
 -- the same of a clause that was decoded
 module _ (b : List ℕ) (w : WellFormed b) (c : Clause) (e : c ≡ decoded b) where
-  pub clause-few : c .n ≤ 32
-  unfolding decoded
-  clause-few = omega (arith, ap (λ (x : Clause). x .n) e, w .goals-to)
-
-  pub clause-count : c .n ≡ goalCount b
-  unfolding decoded
-  clause-count = ap (λ (x : Clause). x .n) e
-
   pub clause-waits : {g : Graph} → g ≡ waitRows 64 (c .n) (c .sets) (c .grounds) (c .listed) → g ≡ waiting b
   unfolding decoded
   clause-waits h = h ∙ ap (λ (x : Clause). waitRows 64 (x .n) (x .sets) (x .grounds) (x .listed)) e ∙ waits-decoded b w

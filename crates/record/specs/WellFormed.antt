@@ -6,7 +6,7 @@ use mathlib.Core.List.{List}
 use Prim.Native.Nat.{ℕ, suc, _+_, _≤_, _<_}
 use lib.ListN.{length}
 use Rattle.sets.specs.Sets.{goalLimit, variableLimit, has}
-use Rattle.record_fields.specs.Fields.{byte, number, set, mark, version, goalCount, varCount, pairCount, headSet, groundSet, headerSize, textAt, textLengthAt, goalEnd, goalPlace, pairAt}
+use Rattle.record_fields.specs.Fields.{byte, number, set, mark, letters, version, goalCount, varCount, pairCount, headSet, groundSet, headerSize, textAt, textLengthAt, goalEnd, goalPlace, pairAt}
 use Rattle.record_rules.specs.Reading.{textLimit}
 
 -- a set without a bit at or above v
@@ -32,7 +32,7 @@ pub record WellFormedPair (b : List ℕ) (k : ℕ) : Type 0 where
 
 pub record WellFormed (b : List ℕ) : Type 0 where
   pub header-whole : headerSize ≤ length b
-  pub marked : mark b ≡ 0x4C464A
+  pub marked : mark b ≡ letters
   pub version-one : version b ≡ 1
   pub goals-from : 1 ≤ goalCount b
   pub goals-to : goalCount b ≤ goalLimit

@@ -24,6 +24,10 @@ set b at = number b at 8
 abbrev pub mark : List ℕ → ℕ
 mark b = number b 0 3
 
+-- the letters LFJ as that number
+abbrev pub letters : ℕ
+letters = 0x4C464A
+
 abbrev pub version : List ℕ → ℕ
 version b = number b 3 2
 

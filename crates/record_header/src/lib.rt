@@ -17,7 +17,7 @@ pub fn size_fine(b: &[u8]) -> bool
 }
 
 fn mark_fine(b: &[u8]) -> bool
-    ensures { λ r. ⌜ r ≡ eqb (F.mark (now (b .entry))) 0x4C464A ⌝ }
+    ensures { λ r. ⌜ r ≡ eqb (F.mark (now (b .entry))) F.letters ⌝ }
 {
     record_fields::number(b, 0, 3) == 0x4C464A
 }

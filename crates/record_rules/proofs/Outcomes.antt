@@ -67,6 +67,13 @@ module _ (t buf : List ℕ) where
   pub buffer-short : length buf < length t → buf ≡ bufferAfter (accepted t) buf
   buffer-short h = keeps t buf h
 
+-- the same outcome has one answer and one buffer
+pub same-answer : {x y : Outcome (List ℕ)} (buf : List ℕ) → x ≡ y → sizeIn x buf ≡ sizeIn y buf
+same-answer buf e = ap (λ (o : Outcome (List ℕ)). sizeIn o buf) e
+
+pub same-buffer : {x y : Outcome (List ℕ)} (buf : List ℕ) → x ≡ y → bufferAfter x buf ≡ bufferAfter y buf
+same-buffer buf e = ap (λ (o : Outcome (List ℕ)). bufferAfter o buf) e
+
 -- ---- the number of an outcome that refuses with 1 or more is 0 exactly if it is accepted
 pub number-zero : {A : Type 0} (zero : A) (o : Outcome A) → ((k p : ℕ) → o ≡ refused k p → 1 ≤ k) → (values zero o .number ≡ 0) ↔ Accepted o
 number-zero zero (refused k p) h = (λ e. absurd (omega (arith, e, h k p refl)), λ a. absurd a)

@@ -7,7 +7,7 @@ use lib.ListN.{length}
 use Rattle.sets.specs.Sets.{goalLimit, variableLimit, within, subset}
 use Rattle.record_rules.specs.declared.Reading.{Reading}
 use Rattle.record_rules.specs.declared.Reading.the-variants.{Fine, Refused}
-use Rattle.record_fields.specs.Fields.{byte, number, set, mark, version, goalCount, varCount, pairCount, headSet, groundSet, headerSize, lengthAt, textAt, textLengthAt, goalEnd, placeAfter, pairAt}
+use Rattle.record_fields.specs.Fields.{byte, number, set, mark, letters, version, goalCount, varCount, pairCount, headSet, groundSet, headerSize, lengthAt, textAt, textLengthAt, goalEnd, placeAfter, pairAt}
 
 infixl 20 _must_else_place_
 -- Reading so far, and one thing more that must hold: else refusal k at a place. The first refusal stays.
@@ -24,7 +24,7 @@ unfoldable pub counts : (ℕ → Bool) → List ℕ → Reading
 counts isVersion b =
     Fine
     must leb headerSize (length b) else 1 place length b
-    must eqb (mark b) 0x4C464A else 2 place 0
+    must eqb (mark b) letters else 2 place 0
     must isVersion (version b) else 3 place 3
     must between 1 goalLimit (goalCount b) else 4 place 5
     must leb (varCount b) variableLimit else 5 place 6

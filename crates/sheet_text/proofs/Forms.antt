@@ -13,7 +13,7 @@ use Rattle.buffer.proofs.Lent.{fits-le}
 use Rattle.record_fields.specs.Fields.{goalCount}
 use Rattle.record_rules.specs.declared.Refusal.{Refusal}
 use Rattle.record_rules.specs.Outcome.{Outcome, refused, accepted}
-use Rattle.record_rules.proofs.Outcomes.{told-apart, one-value, size-fits}
+use Rattle.record_rules.proofs.Outcomes.{told-apart, one-value, size-fits, same-answer, same-buffer}
 use Rattle.record.specs.WellFormed.{WellFormed}
 use Rattle.record.proofs.WellFormed.{well-formed-fine}
 use Rattle.order.specs.Order.{before}
@@ -26,7 +26,7 @@ use Rattle.form_first_n.specs.FirstN.{four}
 use Rattle.form.specs.declared.FormAnswer.{FormAnswer}
 use Rattle.form.specs.declared.FormAnswer.the-variants as W
 use Rattle.form.specs.Form.{firstFour, formText, shown, formAnswer, formBuffer, outcome, goals}
-use Rattle.form.proofs.Outcomes.{shown-fine, thirteen-none, same-answer, same-buffer}
+use Rattle.form.proofs.Outcomes.{shown-fine, thirteen-none}
 use Rattle.form.proofs.Theorems.{settles, form-short}
 use Rattle.sheet_text.specs.Sheet.{formWord, noneLine, formLine}
 use Rattle.sheet_text.proofs.Lines.{none-length}

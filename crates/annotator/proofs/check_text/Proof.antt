@@ -1,6 +1,7 @@
 use Prim.Native.Nat.{_≤_}
 use native.Mathlib.Omega.{arith}
-use Rattle.order.proofs.Decoded.{clause-few, clause-order}
+use Rattle.clause.proofs.Decoded.{clause-few}
+use Rattle.order.proofs.Decoded.{clause-order}
 use Rattle.annotator.proofs.Checks.{text-turned, text-compared}
 use borrow.Author.Needs.{needs}
 use Rattle.annotator.proofs.check_text.Statement.{statement}

@@ -1,5 +1,6 @@
 use Rattle.record.specs.WellFormed.{WellFormed}
-use Rattle.order.proofs.Decoded.{clause-few, clause-count, clause-order}
+use Rattle.clause.proofs.Decoded.{clause-count, clause-few}
+use Rattle.order.proofs.Decoded.{clause-order}
 use Rattle.annotator.proofs.Answers.{well-formed, read-accepted, read-turned, order-fine, order-refused}
 use borrow.Author.Needs.{needs}
 use Rattle.annotator.proofs.order.Statement.{statement}

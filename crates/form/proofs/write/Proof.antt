@@ -3,9 +3,11 @@ use Rattle.record_rules.specs.declared.Reading.the-variants.{Fine}
 use Rattle.record_rules.specs.Reading.{reading}
 use Rattle.record.proofs.WellFormed.{fine-well-formed}
 use Rattle.order.specs.Order.{order}
-use Rattle.order.proofs.Decoded.{clause-few, clause-order}
+use Rattle.clause.proofs.Decoded.{clause-few}
+use Rattle.order.proofs.Decoded.{clause-order}
 use Rattle.form.proofs.Orders.{graph-asks, graph-text, graph-shown}
-use Rattle.form.proofs.Outcomes.{form-refused, shown-refused, same-answer, same-buffer}
+use Rattle.record_rules.proofs.Outcomes.{same-answer, same-buffer}
+use Rattle.form.proofs.Outcomes.{form-refused, shown-refused}
 use borrow.Author.Needs.{needs}
 use Rattle.form.proofs.write.Statement.{statement}
 use Rattle.form.proofs.write.Tie as tie

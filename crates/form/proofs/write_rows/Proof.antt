@@ -15,7 +15,8 @@ use Rattle.expression.specs.Text.{text}
 use Rattle.form_first_n.specs.FirstN.{found}
 use Rattle.form_split.specs.Split.{Ordered, formText}
 use Rattle.form.proofs.Rows.{ordered, room, text-is, text-short}
-use Rattle.form.proofs.Outcomes.{thirteen-none, thirteen-some, same-answer, same-buffer}
+use Rattle.record_rules.proofs.Outcomes.{same-answer, same-buffer}
+use Rattle.form.proofs.Outcomes.{thirteen-none, thirteen-some}
 use borrow.Author.Needs.{needs}
 use Rattle.form.proofs.write_rows.Statement.{statement}
 use Rattle.form.proofs.write_rows.Tie as tie

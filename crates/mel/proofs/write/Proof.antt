@@ -5,7 +5,8 @@ use Rattle.record_rules.specs.declared.Reading.the-variants.{Fine}
 use Rattle.record_rules.specs.Reading.{reading}
 use Rattle.record.specs.WellFormed.{WellFormed}
 use Rattle.record.proofs.WellFormed.{fine-well-formed}
-use Rattle.mel.proofs.Record.{clause-text, clause-length, clause-count, clause-room}
+use Rattle.clause.proofs.Decoded.{clause-count}
+use Rattle.mel.proofs.Record.{clause-text, clause-length, clause-room}
 use Rattle.mel.proofs.Outcomes.{refused-answer, refused-buffer, fine-text}
 use borrow.Author.Needs.{needs}
 use Rattle.mel.proofs.write.Statement.{statement}

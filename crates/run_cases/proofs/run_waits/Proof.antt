@@ -3,7 +3,7 @@ use denote.Ref.{now}
 use Rattle.record_rules.specs.declared.Reading.the-variants.{Fine}
 use Rattle.record_rules.specs.Reading.{reading}
 use Rattle.record.proofs.WellFormed.{fine-well-formed}
-use Rattle.order.proofs.Decoded.{clause-few}
+use Rattle.clause.proofs.Decoded.{clause-few}
 use borrow.Author.Needs.{needs}
 use Rattle.run_cases.proofs.run_waits.Statement.{statement}
 use Rattle.run_cases.proofs.run_waits.Tie as tie
