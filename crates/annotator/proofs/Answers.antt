@@ -5,6 +5,7 @@ use mathlib.Core.List.{List}
 use Prim.Native.Nat.{ℕ, _+_, _≤_, zero-le}
 use lib.Dec.{leb}
 use lib.ListN.{length}
+use Rattle.sets.specs.Sets.{goalLimit}
 use Rattle.graph.specs.Graph.{edgeless}
 use Rattle.graph.specs.declared.Graph.{Graph}
 use Rattle.record_rules.specs.declared.Refusal.{Refusal}
@@ -92,5 +93,5 @@ module _ (b : List ℕ) where
   tested g e f h = ap (λ (n : ℕ). leb 1 g && leb g n) (sym h) ∙ sym e ∙ f
 
   -- a goal of the record, and the most that there are
-  pub in-range : (g : ℕ) → WellFormed b → leb 1 g && leb g (goalCount b) ≡ true → (1 ≤ g) × (g ≤ goalCount b) × (goalCount b ≤ 32)
+  pub in-range : (g : ℕ) → WellFormed b → leb 1 g && leb g (goalCount b) ≡ true → (1 ≤ g) × (g ≤ goalCount b) × (goalCount b ≤ goalLimit)
   in-range g w e = (between-low 1 (goalCount b) g e, between-high 1 (goalCount b) g e, w .goals-to)

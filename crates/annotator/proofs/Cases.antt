@@ -28,7 +28,7 @@ use Rattle.expression.specs.Search.{Four, firstN}
 use Rattle.expression.specs.Text.{text}
 use Rattle.expression_grammar.specs.Reader as R
 use Rattle.expression_grammar.specs.Numbers.{misuse}
-use Rattle.expression_grammar.specs.TextRules.{numbered, decided, readText}
+use Rattle.expression_grammar.specs.TextRules.{expressionLimit, openLimit, numbered, decided, readText}
 use Rattle.expression_grammar.specs.Check.{same, firstDiffer, verdict, checked}
 use Rattle.order_compare.specs.declared.Pair.{Pair}
 use Rattle.order_compare.specs.declared.Verdict as Verdicts
@@ -64,8 +64,8 @@ started P b o h t = all-read (λ k p. P k) (λ x. Unit {0}) b o (λ r e. h (r .n
 text-turned : (n : ℕ) (t : List ℕ) → Turned OfCheck (readText n t)
 unfolding readText
 text-turned n t =
-    all-only (λ k p. OfCheck k) (λ x. Unit {0}) (leb 1 (length t) && leb (length t) 512) 15 0 (decided n t (R.read 32 t)) (inr (omega arith, omega arith))
-    (λ e. inside (R.read 32 t))
+    all-only (λ k p. OfCheck k) (λ x. Unit {0}) (leb 1 (length t) && leb (length t) expressionLimit) 15 0 (decided n t (R.read openLimit t)) (inr (omega arith, omega arith))
+    (λ e. inside (R.read openLimit t))
   where
     used : (e : Expr) (o : Option ℕ) → Turned OfCheck (numbered e o)
     used e none = tt

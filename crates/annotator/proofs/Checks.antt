@@ -3,6 +3,7 @@ use mathlib.Core.Path.{_≡_, refl, sym, ap, ap₂, _∙_}
 use mathlib.Core.List.{List}
 use Prim.Native.Nat.{ℕ, _≤_}
 use native.Mathlib.Omega.{arith}
+use Rattle.sets.specs.Sets.{goalLimit}
 use Rattle.graph.specs.Graph.{ahead, rowsOf}
 use Rattle.graph.specs.declared.Graph.{Graph}
 use Rattle.record_rules.specs.declared.Refusal.{Refusal}
@@ -44,13 +45,13 @@ module _ (b t : List ℕ) where
       sym (checked-refused n (before b) t (r .number) (r .place) h) ∙ ap (λ (m : ℕ). checked m (before b) t) q
 
   -- the text is read, and its order compared with the record's
-  pub text-compared : (n : ℕ) (a : TextReading) (g : Graph) (v : Verdict) → n ≡ goalCount b → n ≤ 32 → a ≡ textAnswer n (readText n t) → a .outcome ≡ Fine
+  pub text-compared : (n : ℕ) (a : TextReading) (g : Graph) (v : Verdict) → n ≡ goalCount b → n ≤ goalLimit → a ≡ textAnswer n (readText n t) → a .outcome ≡ Fine
       → g ≡ Order.order b → v ≡ said (firstDiffer n (ahead (g .rows)) (ahead (a .graph .rows))) → accepted (verdictOf v) ≡ checked (goalCount b) (before b) t
   unfolding Order.order
   text-compared n a g v q l e o h w =
       let (x, f) = was-read n (readText n t) (ap (λ (x : TextReading). x .outcome) (sym e) ∙ o) in
-      let ours : g .rows ≡ rowsOf 32 n (before b) = ap (λ (x : Graph). x .rows) h ∙ ap (λ (m : ℕ). rowsOf 32 m (before b)) (sym q) in
-      let theirs : a .graph .rows ≡ rowsOf 32 n (Expr.before x) = ap (λ (x : TextReading). x .graph .rows) (e ∙ ap (textAnswer n) f) in
+      let ours : g .rows ≡ rowsOf goalLimit n (before b) = ap (λ (x : Graph). x .rows) h ∙ ap (λ (m : ℕ). rowsOf goalLimit m (before b)) (sym q) in
+      let theirs : a .graph .rows ≡ rowsOf goalLimit n (Expr.before x) = ap (λ (x : TextReading). x .graph .rows) (e ∙ ap (textAnswer n) f) in
       ap (λ (v : Verdict). accepted (verdictOf v)) (w ∙ ap₂ (λ (y z : List ℕ). said (firstDiffer n (ahead y) (ahead z))) ours theirs)
       ∙ sym (checked-compared n (before b) t x l f)
       ∙ ap (λ (m : ℕ). checked m (before b) t) q

@@ -3,6 +3,7 @@ use mathlib.Core.Path.{_≡_, ap}
 use mathlib.Core.List.{List}
 use Prim.Native.Nat.{ℕ, _≤_}
 use native.Mathlib.Omega.{arith}
+use Rattle.sets.specs.Sets.{goalLimit}
 use Rattle.record_fields.specs.Fields.{goalCount}
 use Rattle.record.specs.WellFormed.{WellFormed}
 use Rattle.clause.specs.declared.Clause.{Clause}
@@ -13,5 +14,5 @@ module _ (b : List ℕ) (w : WellFormed b) (c : Clause) (e : c ≡ decoded b) wh
   unfolding decoded
   clause-count = ap (λ (x : Clause). x .n) e
 
-  pub clause-few : c .n ≤ 32
+  pub clause-few : c .n ≤ goalLimit
   clause-few = omega (arith, clause-count, w .goals-to)

@@ -3,7 +3,7 @@
 use mathlib.Core.List.{List}
 use Prim.Native.Nat.{ℕ, suc}
 use Rattle.logic.specs.Table.{table}
-use Rattle.sets.specs.Sets.{setOf}
+use Rattle.sets.specs.Sets.{goalLimit, variableLimit, setOf}
 use Rattle.record_fields.specs.Facts.{groundAt}
 use Rattle.record_fields.specs.Fields.{goalCount, varCount, pairCount, headSet, goalSet, listed}
 use Rattle.clause.specs.declared.Clause.{Clause}
@@ -28,7 +28,7 @@ decoded b =
       v = varCount b;
       p = pairCount b;
       head = headSet b;
-      sets = goalSets 32 b;
-      grounds = groundSets 32 b;
-      listed = pairRows 64 b;
+      sets = goalSets goalLimit b;
+      grounds = groundSets goalLimit b;
+      listed = pairRows variableLimit b;
     }

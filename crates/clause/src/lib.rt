@@ -4,6 +4,7 @@ use record_fields::HEADER;
 ghost use mathlib.Core.Path.{_≡_};
 ghost use Prim.Native.Nat.{_+_, _*_, _<_, _≤_};
 ghost use lib.ListN.{getD, replicate};
+ghost use Rattle.sets.specs.Sets.{goalLimit, variableLimit};
 ghost use Rattle.record_fields.specs.Fields as F;
 ghost use Rattle.record.specs.WellFormed.{WellFormed};
 ghost use Rattle.clause.specs.Clause as C;
@@ -24,35 +25,31 @@ pub struct Clause {
     pub listed: [u64; sets::VARIABLES],
 }
 
-// Stores the variable set of each of the n goals, and the variables known ground at it: where the goals end. In version 1 every goal has the header's ground
-// set.
-fn take_goals(
-    b: &[u8],
-    n: usize,
-    sets: &mut [u64; Graph::MAX],
-    grounds: &mut [u64; Graph::MAX],
-) -> usize
-    requires { ⌜ WellFormed (now b) × (n ≡ F.goalCount (now b)) × (now sets ≡ replicate 32 0) × (now grounds ≡ replicate 32 0) ⌝ }
-    ensures { λ r. ⌜ r ≡ F.pairsPlace (now (b .entry)) ⌝ }
-    ensures { λ r. ⌜ now (sets .exit) ≡ C.goalSets 32 (now (b .entry)) ⌝ }
-    ensures { λ r. ⌜ now (grounds .exit) ≡ C.groundSets 32 (now (b .entry)) ⌝ }
+// Stores the variable set of each of the n goals, and the variables known ground at it. In version 1 every goal has the header's ground set. A goal starts at
+// `fixed` + `texts`, what the fixed parts and what the texts before it take up: summed apart, so that a goal waits for one length byte and one sum.
+fn take_goals(b: &[u8], n: usize, sets: &mut [u64; Graph::MAX], grounds: &mut [u64; Graph::MAX])
+    requires { ⌜ WellFormed (now b) × (n ≡ F.goalCount (now b)) × (now sets ≡ replicate goalLimit 0) × (now grounds ≡ replicate goalLimit 0) ⌝ }
+    ensures { λ _. ⌜ now (sets .exit) ≡ C.goalSets goalLimit (now (b .entry)) ⌝ }
+    ensures { λ _. ⌜ now (grounds .exit) ≡ C.groundSets goalLimit (now (b .entry)) ⌝ }
 {
-    let ground = record_fields::ground_set(b);
-    let mut at: usize = HEADER;
+    let ground = record_fields::whole_set(b, record_fields::GROUND);
+    let mut fixed: usize = HEADER;
+    let mut texts: usize = 0;
     let mut g: usize = 0;
     while g < n {
+        let at = fixed + texts;
         sets[g] = record_fields::whole_set(b, at);
         grounds[g] = ground;
         let length = record_fields::size_of(b[record_fields::length_at(b, at)]);
-        at = record_fields::text_at(b, at) + length;
+        fixed = record_fields::text_at(b, fixed);
+        texts += length;
         g += 1;
     }
-    at
 }
 
 // Row i of `listed`; row `last` is at hand.
 fn row_of(listed: &[u64; sets::VARIABLES], i: usize, last: usize, row: u64) -> u64
-    requires { ⌜ (i < 64) × (row ≡ getD (now listed) last 0) ⌝ }
+    requires { ⌜ (i < variableLimit) × (row ≡ getD (now listed) last 0) ⌝ }
     ensures { λ r. ⌜ r ≡ getD (now (listed .entry)) i 0 ⌝ }
 {
     if i == last { row } else { listed[i] }
@@ -61,8 +58,8 @@ fn row_of(listed: &[u64; sets::VARIABLES], i: usize, last: usize, row: u64) -> u
 // Stores the p pairs, which stand from `from` on, in the rows of both their variables. The pairs of one lower variable follow each other: its row is kept at
 // hand, so that a pair need not wait for the store of the one before it.
 fn take_pairs(b: &[u8], from: usize, p: usize, listed: &mut [u64; sets::VARIABLES])
-    requires { ⌜ WellFormed (now b) × (from ≡ F.pairsPlace (now b)) × (p ≡ F.pairCount (now b)) × (now listed ≡ replicate 64 0) ⌝ }
-    ensures { λ _. ⌜ now (listed .exit) ≡ C.pairRows 64 (now (b .entry)) ⌝ }
+    requires { ⌜ WellFormed (now b) × (from ≡ F.pairsPlace (now b)) × (p ≡ F.pairCount (now b)) × (now listed ≡ replicate variableLimit 0) ⌝ }
+    ensures { λ _. ⌜ now (listed .exit) ≡ C.pairRows variableLimit (now (b .entry)) ⌝ }
 {
     let mut last: usize = 0;
     let mut row: u64 = 0;
@@ -79,7 +76,7 @@ fn take_pairs(b: &[u8], from: usize, p: usize, listed: &mut [u64; sets::VARIABLE
     }
 }
 
-// Decodes an accepted record.
+// Decodes an accepted record. Its pairs end where it ends: their place does not wait for the goals.
 pub fn decode(b: &[u8]) -> Clause
     requires { ⌜ WellFormed (now b) ⌝ }
     ensures { λ r. ⌜ r ≡ C.decoded (now (b .entry)) ⌝ }
@@ -87,12 +84,12 @@ pub fn decode(b: &[u8]) -> Clause
     let n = record_fields::goal_count(b);
     let v = record_fields::var_count(b) as usize;
     let p = record_fields::pair_count(b);
-    let head = record_fields::head_set(b);
+    let head = record_fields::whole_set(b, record_fields::HEAD);
     let mut sets = [0u64; Graph::MAX];
     let mut grounds = [0u64; Graph::MAX];
-    let at = take_goals(b, n, &mut sets, &mut grounds);
+    take_goals(b, n, &mut sets, &mut grounds);
     let mut listed = [0u64; sets::VARIABLES];
-    take_pairs(b, at, p, &mut listed);
+    take_pairs(b, b.len() - 2 * p, p, &mut listed);
     Clause {
         n,
         v,

@@ -9,8 +9,9 @@ use native.Mathlib.Nat.{eq-or-lt-of-le}
 use lib.Dec.{eqb}
 use lib.ListN.{length, length-append}
 use borrow.Author.Tests.{eq-eqb, ne-eqb}
+use Rattle.sets.specs.Sets.{goalLimit}
 use Rattle.expression.specs.Expr.{Expr, goal, join, Members, one, more, times, timesM, UsesOnce}
-use Rattle.expression.specs.Text.{mark, inner, run, text}
+use Rattle.expression.specs.Text.{formLimit, mark, inner, run, text}
 use Rattle.expression.proofs.Fits.{In, InM}
 use Rattle.buffer.specs.Decimal.{decimal, decimalTo}
 use Rattle.buffer.proofs.Decimal.{decimal-length}
@@ -137,27 +138,27 @@ module _ (f : ℕ → ℕ) where
       ⊎-elim (λ e. omega (arith, ap (total f) e)) (λ l. omega (arith, total-mono m n (omega arith))) (eq-or-lt-of-le h)
 
 -- 9 numbers of one digit and 23 of two, and a byte for each
-widest : total wide 32 ≡ 87
+widest : total wide goalLimit ≡ 87
 unfolding decimal decimalTo
 widest = refl
 
 -- The longest text of up to 32 goals has 146 bytes.
-pub text-fits : (n : ℕ) (e : Expr) → UsesOnce n e → n ≤ 32 → length (text e) ≤ 146
+pub text-fits : (n : ℕ) (e : Expr) → UsesOnce n e → n ≤ goalLimit → length (text e) ≤ formLimit
 text-fits n (goal g) u h = let r = uses-in n (goal g) u g refl in omega (arith, decimal-length 1 g (omega (arith, r .1)))
 text-fits n (join k e ms) u h =
-    let c : total (λ _. 1) 32 ≡ 32 = refl in
+    let c : total (λ _. 1) goalLimit ≡ goalLimit = refl in
     omega (
       arith,
       widest,
       text-length k e ms,
       weigh-uses wide n (join k e ms) u,
       weigh-uses (λ _. 1) n (join k e ms) u,
-      total-mono wide 32 n h,
-      total-mono (λ _. 1) 32 n h,
+      total-mono wide goalLimit n h,
+      total-mono (λ _. 1) goalLimit n h,
     )
 
 -- Up to 32 goals are in fewer than 32 sequences and groups.
-pub joins-few : (n : ℕ) (e : Expr) → UsesOnce n e → n ≤ 32 → joins e < 32
+pub joins-few : (n : ℕ) (e : Expr) → UsesOnce n e → n ≤ goalLimit → joins e < goalLimit
 joins-few n e u h =
-    let c : total (λ _. 1) 32 ≡ 32 = refl in
-    omega (arith, joins-lt e, weigh-uses (λ _. 1) n e u, total-mono (λ _. 1) 32 n h)
+    let c : total (λ _. 1) goalLimit ≡ goalLimit = refl in
+    omega (arith, joins-lt e, weigh-uses (λ _. 1) n e u, total-mono (λ _. 1) goalLimit n h)

@@ -15,12 +15,13 @@ use native.Mathlib.Omega.{arith}
 use lib.Dec.{eqb, ltb}
 use lib.ListN.{length}
 use borrow.Author.Tests.{eq-eqb, eqb-true, lt-ltb, ltb-true}
+use Rattle.sets.specs.Sets.{goalLimit}
 use Rattle.logic.proofs.Bools.{iff, is-false, and-true, cond-le}
 use Rattle.buffer.specs.Decimal.{decimal, decimalTo}
 use Rattle.expression.specs.Expr.{Expr, times, stands, before, Once, Induces, UsesOnce, UsesFour, Goals, Matches, House, HouseForm, N, NoN, Order}
 use Rattle.expression.specs.Induced.{Holds, Innermost, Before}
 use Rattle.expression.specs.Form.{form}
-use Rattle.expression.specs.Text.{text}
+use Rattle.expression.specs.Text.{formLimit, text}
 use Rattle.expression.specs.Search.{Four, FirstN, firstN}
 use Rattle.expression.specs.Restore.{restore}
 use Rattle.expression.specs.Arrange.{Strict, formAny}
@@ -109,13 +110,13 @@ form-any-is R n o free h =
     form-unique R n (formAny R n) (form R n) (form-any R n (order-strict R (Goals n) o) free h) (form-is R n o free h)
 
 -- ---- T4. The text of up to 32 goals has at most 146 bytes, in house form or not,
-pub text-fits : (n : ℕ) (e : Expr) → UsesOnce n e → n ≤ 32 → length (text e) ≤ 146
+pub text-fits : (n : ℕ) (e : Expr) → UsesOnce n e → n ≤ goalLimit → length (text e) ≤ formLimit
 text-fits n e = Length.text-fits n e
 
 -- and that of a house form may have as many: each goal in turn comes after all before it, or beside all before it.
-pub text-longest : (R : ℕ → ℕ → Bool) × (e : Expr) × HouseForm R 32 e × (length (text e) ≡ 146)
+pub text-longest : (R : ℕ → ℕ → Bool) × (e : Expr) × HouseForm R goalLimit e × (length (text e) ≡ formLimit)
 unfolding decimal decimalTo
-text-longest = (R, form R 32, form-is R 32 order free (omega arith), refl)
+text-longest = (R, form R goalLimit, form-is R goalLimit order free (omega arith), refl)
   where
     R : ℕ → ℕ → Bool
     R i j = ltb i j && eqb (j % 2) 0
@@ -126,14 +127,14 @@ text-longest = (R, form R 32, form-is R 32 order free (omega arith), refl)
     is-up : (i j : ℕ) → i < j → j % 2 ≡ 0 → R i j ≡ true
     is-up i j h g = simp (lt-ltb i j h, eq-eqb (j % 2) 0 g)
 
-    order : Order R (Goals 32)
+    order : Order R (Goals goalLimit)
     order =
         record {
           rising = λ i j _ _ h. up i j h .0;
           chained = λ i j k _ _ _ h g. is-up i k (omega (arith, up i j h .0, up j k g .0)) (up j k g .1);
         }
 
-    free : NoN R (Goals 32)
+    free : NoN R (Goals goalLimit)
     free a b c d _ _ _ _ n = true≢false (sym (is-up a d below (up b d (n .bd) .1)) ∙ n .ad)
       where
         -- c is not after d, and a is before c

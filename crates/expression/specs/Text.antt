@@ -25,3 +25,7 @@ abbrev mutual
 abbrev pub text : Expr → List ℕ
 text (goal g) = decimal g
 text (join k e ms) = run k (more e ms)
+
+-- 01: "Its longest text is 146 bytes.": a house form's, of up to 32 goals (T4, `text-fits` and `text-longest` of proofs/Theorems)
+abbrev pub formLimit : ℕ
+formLimit = 146

@@ -9,6 +9,7 @@ use mathlib.Core.List.{[], _∷_}
 use mathlib.Core.Logic.{inl, inr}
 use Prim.Native.Nat.{ℕ, _<_}
 use native.Mathlib.Omega.{arith}
+use Rattle.expression_grammar.specs.TextRules.{openLimit}
 use Rattle.expression.specs.Expr.{goal, join, one}
 use Rattle.expression_grammar.specs.Grammar.{Number, single, double, alone, several, last, group, number, Text}
 use Rattle.expression_grammar.specs.Occurrences.{NumberAt, Wrong, Misused}
@@ -23,7 +24,7 @@ twelve-is : Number (49 ∷ 50 ∷ []) 12
 twelve-is = double 1 2 (omega arith) (omega arith) (omega arith)
 
 -- 1,1
-abbrev one-one : Text 32 (49 ∷ 44 ∷ 49 ∷ []) (join true (goal 1) (one (goal 1)))
+abbrev one-one : Text openLimit (49 ∷ 44 ∷ 49 ∷ []) (join true (goal 1) (one (goal 1)))
 one-one = several (group (alone (number one-is))) (last (group (alone (number one-is)))) refl
 
 pub one-twice : Misused 2 (49 ∷ 44 ∷ 49 ∷ []) 2
@@ -36,7 +37,7 @@ one-twice = (join true (goal 1) (one (goal 1)), one-one, inl (record { wrong = (
     none-before q l (v, inr i, a) = omega (arith, i .0)
 
 -- 1
-abbrev single-one : Text 32 (49 ∷ []) (goal 1)
+abbrev single-one : Text openLimit (49 ∷ []) (goal 1)
 single-one = alone (group (alone (number one-is)))
 
 pub one-alone : Misused 2 (49 ∷ []) 1
@@ -47,7 +48,7 @@ one-alone = (goal 1, single-one, inr (record { none-wrong = none-wrong; goal = 2
     none-wrong q (v, i, inr (p, m, a)) = omega (arith, i .0)
 
 -- 2,12&1
-abbrev mixed : Text 32 (50 ∷ 44 ∷ 49 ∷ 50 ∷ 38 ∷ 49 ∷ []) (join true (goal 2) (one (join false (goal 12) (one (goal 1)))))
+abbrev mixed : Text openLimit (50 ∷ 44 ∷ 49 ∷ 50 ∷ 38 ∷ 49 ∷ []) (join true (goal 2) (one (join false (goal 12) (one (goal 1)))))
 mixed = several {u = 50 ∷ []} {w = 49 ∷ 50 ∷ 38 ∷ 49 ∷ []} (group (alone (number two-is))) (last (group (several (number twelve-is) (last (number one-is)) refl))) refl
 
 pub too-high : Misused 2 (50 ∷ 44 ∷ 49 ∷ 50 ∷ 38 ∷ 49 ∷ []) 2
@@ -62,7 +63,7 @@ too-high = (join true (goal 2) (one (join false (goal 12) (one (goal 1)))), mixe
     none-before q l (v, inr (inr i), a) = omega (arith, i .0)
 
 -- 12
-abbrev twelve : Text 32 (49 ∷ 50 ∷ []) (goal 12)
+abbrev twelve : Text openLimit (49 ∷ 50 ∷ []) (goal 12)
 twelve = alone (group (alone (number twelve-is)))
 
 pub fine : Misused 12 (49 ∷ 50 ∷ []) 2

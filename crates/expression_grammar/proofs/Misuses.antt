@@ -15,6 +15,7 @@ use native.Mathlib.Omega.{arith}
 use lib.Dec.{eqb, ltb}
 use lib.ListN.{length}
 use borrow.Author.Tests.{eqb-true, eq-eqb, ltb-true, lt-ltb}
+use Rattle.expression_grammar.specs.TextRules.{openLimit}
 use Rattle.logic.proofs.Bools.{or-true, or-false, or-l, or-r}
 use Rattle.expression.specs.Expr.{Expr, Goals, times}
 use Rattle.expression.proofs.Search.{never, or-some}
@@ -153,7 +154,7 @@ module _ (n : ℕ) (N M : ℕ → ℕ → Type 0) (same : (p v : ℕ) → N p v 
   misuse-same t e p (inr m) =
       inr (record { none-wrong = λ q w. m .none-wrong q (same-wrong q w); goal = m .goal; is-goal = m .is-goal; stands-not = m .stands-not; place = m .place })
 
-pub misused-runs : (n : ℕ) (t : List ℕ) (p : ℕ) → Misused n t p ↔ ((e : Expr) × Text 32 t e × (Leftmost n (NumberRun t) p ⊎ Missing n (NumberRun t) t e p))
+pub misused-runs : (n : ℕ) (t : List ℕ) (p : ℕ) → Misused n t p ↔ ((e : Expr) × Text openLimit t e × (Leftmost n (NumberRun t) p ⊎ Missing n (NumberRun t) t e p))
 misused-runs n t p = (
   λ (e, j, m). (e, j, misuse-same n (NumberAt j) (NumberRun t) (number-run j) t e p m),
   λ (e, j, m). (e, j, misuse-same n (NumberRun t) (NumberAt j) (λ q v. let r = number-run j q v in (r .1, r .0)) t e p m),

@@ -10,6 +10,7 @@ use mathlib.Core.List.{List}
 use mathlib.Core.Logic.{_↔_}
 use Prim.Native.Nat.{ℕ, _≤_, _<_}
 use lib.ListN.{length}
+use Rattle.sets.specs.Sets.{goalLimit}
 use Rattle.expression.specs.Expr.{Expr, UsesOnce, Matches, HouseForm, before}
 use Rattle.expression.specs.Text.{text}
 pub use Rattle.expression.proofs.Theorems.{order-no-n, induced-no-n, no-four, form-any, form-is, form-unique, text-fits, text-longest}
@@ -17,7 +18,7 @@ use Rattle.expression_grammar.specs.Grammar.{Text, BadAt}
 use Rattle.expression_grammar.specs.Occurrences.{Misused}
 use Rattle.expression_grammar.specs.Reader.{reads, stops, read}
 use Rattle.record_rules.specs.Outcome.{refused, accepted}
-use Rattle.expression_grammar.specs.TextRules.{readText}
+use Rattle.expression_grammar.specs.TextRules.{expressionLimit, openLimit, readText}
 use Rattle.expression_grammar.specs.Check.{same, verdict, judged, checked}
 use Rattle.expression_grammar.proofs.Decides as Decides
 use Rattle.expression_grammar.proofs.Readings as Readings
@@ -37,23 +38,23 @@ pub unambiguous : (d : ℕ) (t : List ℕ) (e e′ : Expr) → Text d t e → Te
 unambiguous d t e e′ j j′ = Decides.unambiguous d t e e′ j j′
 
 -- The whole reading: an expression is read exactly if the text has 1 to 512 bytes, is one of its texts, and it uses each goal of 1 to n once ..
-pub read-text : (n : ℕ) (t : List ℕ) (e : Expr) → (readText n t ≡ accepted e) ↔ ((1 ≤ length t) × (length t ≤ 512) × Text 32 t e × UsesOnce n e)
+pub read-text : (n : ℕ) (t : List ℕ) (e : Expr) → (readText n t ≡ accepted e) ↔ ((1 ≤ length t) × (length t ≤ expressionLimit) × Text openLimit t e × UsesOnce n e)
 read-text n t e = Readings.read-answer n t e
 
 -- .. and refusal 16 has exactly the paper's place.
-pub read-16 : (n : ℕ) (t : List ℕ) (k : ℕ) → (readText n t ≡ refused 16 k) ↔ ((1 ≤ length t) × (length t ≤ 512) × BadAt 32 t k)
+pub read-16 : (n : ℕ) (t : List ℕ) (k : ℕ) → (readText n t ≡ refused 16 k) ↔ ((1 ≤ length t) × (length t ≤ expressionLimit) × BadAt openLimit t k)
 read-16 n t k = Readings.read-16 n t k
 
 -- and so has refusal 17.
-pub read-17 : (n : ℕ) (t : List ℕ) (p : ℕ) → (readText n t ≡ refused 17 p) ↔ ((1 ≤ length t) × (length t ≤ 512) × Misused n t p)
+pub read-17 : (n : ℕ) (t : List ℕ) (p : ℕ) → (readText n t ≡ refused 17 p) ↔ ((1 ≤ length t) × (length t ≤ expressionLimit) × Misused n t p)
 read-17 n t p = Readings.read-17 n t p
 
 -- T8, its half: the text of a house form is read as that form, and so with its order ..
-pub form-read : (R : ℕ → ℕ → Bool) (n : ℕ) (e : Expr) → HouseForm R n e → n ≤ 32 → (readText n (text e) ≡ accepted e) × Matches R n e
+pub form-read : (R : ℕ → ℕ → Bool) (n : ℕ) (e : Expr) → HouseForm R n e → n ≤ goalLimit → (readText n (text e) ≡ accepted e) × Matches R n e
 form-read R n e f h = (Written.written-read n e (f .uses) h, f .order)
 
 -- .. and the check calls it "same".
-pub form-same : (R : ℕ → ℕ → Bool) (n : ℕ) (e : Expr) → HouseForm R n e → n ≤ 32 → checked n R (text e) ≡ accepted same
+pub form-same : (R : ℕ → ℕ → Bool) (n : ℕ) (e : Expr) → HouseForm R n e → n ≤ goalLimit → checked n R (text e) ≡ accepted same
 unfolding checked
 form-same R n e f h =
     ap (λ r. judged n R r) (Written.written-read n e (f .uses) h) ∙ ap (λ o. accepted (verdict o)) (Differences.same-order n R (before e) .1 (f .order))

@@ -7,6 +7,7 @@ use Prim.Native.Nat.{ℕ, zero, suc, _+_, _*_, _/_, _%_, _≤_, _<_}
 use native.Mathlib.Omega.{arith}
 use native.Mathlib.Decide.{decLt}
 use lib.ListN.{length}
+use Rattle.sets.specs.Sets.{goalLimit}
 use Rattle.expression.specs.Expr.{Expr, goal, join, Members, one, more, UsesOnce}
 use Rattle.expression.specs.Text.{mark, inner, run, text}
 use Rattle.buffer.specs.Decimal.{decimal}
@@ -16,7 +17,7 @@ use Rattle.expression.proofs.Theorems.{uses-in}
 use Rattle.expression.proofs.Length.{joins, joinsM, joins-few, text-fits}
 use Rattle.expression_grammar.specs.Grammar.{Number, single, double, Joined, alone, several, Others, last, next, Member, group, number, parens, Text as TextOf}
 use Rattle.record_rules.specs.Outcome.{accepted}
-use Rattle.expression_grammar.specs.TextRules.{readText}
+use Rattle.expression_grammar.specs.TextRules.{openLimit, readText}
 use Rattle.expression_grammar.proofs.Complete.{complete}
 use Rattle.expression_grammar.proofs.Sound.{not-both}
 use Rattle.expression_grammar.proofs.Decides.{unambiguous}
@@ -56,8 +57,8 @@ pub written-text : (e : Expr) (d : ℕ) → ((i : ℕ) → In i e → (1 ≤ i) 
 written-text (goal g) d h le = alone (group (alone (inner-text (goal g) d h le)))
 written-text (join k e ms) d h le = as-sequence k d (inner e) (run k ms) e ms (inner-text e d (λ i p. h i (inl p)) (omega arith)) (run-text ms k d (λ i p. h i (inr p)) (omega arith))
 
-pub written : (n : ℕ) (e : Expr) → UsesOnce n e → n ≤ 32 → TextOf 32 (text e) e
-written n e u h = let j = joins-few n e u h in written-text e 32 (λ i p. let r = uses-in n e u i p in (r .0, omega (arith, r .1))) (omega arith)
+pub written : (n : ℕ) (e : Expr) → UsesOnce n e → n ≤ goalLimit → TextOf openLimit (text e) e
+written n e u h = let j = joins-few n e u h in written-text e openLimit (λ i p. let r = uses-in n e u i p in (r .0, omega (arith, r .1))) (omega arith)
 
 -- a text of the grammar is not empty
 some-bytes : (d : ℕ) (t : List ℕ) (e : Expr) → TextOf d t e → 1 ≤ length t
@@ -65,10 +66,10 @@ some-bytes d [] e j = absurd (not-both e 0 (complete d [] e j))
 some-bytes d (b ∷ t) e j = omega arith
 
 -- the text of an expression of the goals 1 to n is read as that expression
-pub written-read : (n : ℕ) (e : Expr) → UsesOnce n e → n ≤ 32 → readText n (text e) ≡ accepted e
+pub written-read : (n : ℕ) (e : Expr) → UsesOnce n e → n ≤ goalLimit → readText n (text e) ≡ accepted e
 written-read n e u h =
     let j = written n e u h in
-    read-answer n (text e) e .1 (some-bytes 32 (text e) e j, omega (arith, text-fits n e u h), j, u)
+    read-answer n (text e) e .1 (some-bytes openLimit (text e) e j, omega (arith, text-fits n e u h), j, u)
 
 -- expressions of up to 99 goals have different texts unless they are the same
 pub text-same : (n m : ℕ) (e e′ : Expr) → UsesOnce n e → n < 100 → UsesOnce m e′ → m < 100 → text e ≡ text e′ → e ≡ e′

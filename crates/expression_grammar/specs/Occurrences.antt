@@ -6,6 +6,7 @@ use mathlib.Core.List.{List, [], _∷_, _++_}
 use mathlib.Core.Logic.{_⊎_}
 use Prim.Native.Nat.{ℕ, suc, _+_, _≤_, _<_}
 use lib.ListN.{length}
+use Rattle.expression_grammar.specs.TextRules.{openLimit}
 use Rattle.expression.specs.Expr.{Expr, Members, Goals, times}
 use Rattle.expression_grammar.specs.Grammar.{Number, Joined, alone, several, Others, last, next, Member, group, number, parens, Text}
 
@@ -66,4 +67,4 @@ Misuse n {t = t} {e = e} j p = Leftmost n (NumberAt j) p ⊎ Missing n (NumberAt
 
 -- 17 at the place p, for n goals: the text is in the grammar, and its numbers are misused so.
 abbrev pub Misused : ℕ → List ℕ → ℕ → Type 0
-Misused n t p = (e : Expr) × (j : Text 32 t e) × Misuse n j p
+Misused n t p = (e : Expr) × (j : Text openLimit t e) × Misuse n j p

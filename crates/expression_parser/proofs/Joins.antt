@@ -6,6 +6,7 @@ use mathlib.Core.Option.{none, some}
 use Prim.Native.Nat.{ℕ, _+_, _<_, _≤_}
 use native.Mathlib.Omega.{arith}
 use lib.ListN.{length, getD, drop}
+use Rattle.expression_grammar.specs.TextRules.{openLimit}
 use Rattle.sets.specs.Sets.{union}
 use Rattle.expression.specs.Expr.{Expr, one}
 use Rattle.expression.specs.Text.{mark}
@@ -91,7 +92,7 @@ pub record Looped (w : ℕ) (k : Bool) (s : List ℕ) (depth a₀ a : ℕ) (rows
   pub shape : Shape a₀ a front
   pub told : FrontTold w k front rows₀ set extra rows
   pub words : Words w rows
-  pub comes : (d : ℕ) (os : List Level) (g : Front) → d + depth ≡ 32 → Comes s a₀ (within k d os g none due) a (within k d os g front due)
+  pub comes : (d : ℕ) (os : List Level) (g : Front) → d + depth ≡ openLimit → Comes s a₀ (within k d os g none due) a (within k d os g front due)
 
 pub loop-start : (w : ℕ) (k : Bool) (s : List ℕ) (depth a : ℕ) (rows : List ℕ) → Words w rows → Looped w k s depth a a rows 0 0 rows
 loop-start w k s depth a rows ws = record { front = none; from = omega arith; shape = refl; told = (refl, refl); words = ws; comes = λ d os g q. refl }
@@ -167,7 +168,7 @@ module _ {w : ℕ} {k : Bool} {s : List ℕ} {depth a₀ a : ℕ} {rows₀ : Lis
   pub turn-one : a ≡ a₀ → ((getD s (n .end) 0 ≡ mark k) → ⊥) → JoinedAnswer w k s a₀ depth rows₀ (Read n) now
   turn-one same b = go (u .loop .front) (u .loop .shape) (u .loop .told) (u .loop .comes)
     where
-      go : (f : Front) → Shape a₀ a f → FrontTold w k f rows₀ set extra rows → ((d : ℕ) (os : List Level) (g : Front) → d + depth ≡ 32 → Comes s a₀ (within k d os g none due) a (within k d os g f due))
+      go : (f : Front) → Shape a₀ a f → FrontTold w k f rows₀ set extra rows → ((d : ℕ) (os : List Level) (g : Front) → d + depth ≡ openLimit → Comes s a₀ (within k d os g none due) a (within k d os g f due))
           → JoinedAnswer w k s a₀ depth rows₀ (Read n) now
       go none sh td cm =
           let m = u .member in (
@@ -183,7 +184,7 @@ module _ {w : ℕ} {k : Bool} {s : List ℕ} {depth a₀ a : ℕ} {rows₀ : Lis
   pub turn-end : ((a ≡ a₀) → ⊥) → ((getD s (n .end) 0 ≡ mark k) → ⊥) → JoinedAnswer w k s a₀ depth rows₀ (joined k set extra n) now
   turn-end other-place b = go (u .loop .front) (u .loop .shape) (u .loop .told) (u .loop .comes)
     where
-      go : (f : Front) → Shape a₀ a f → FrontTold w k f rows₀ set extra rows → ((d : ℕ) (os : List Level) (g : Front) → d + depth ≡ 32 → Comes s a₀ (within k d os g none due) a (within k d os g f due))
+      go : (f : Front) → Shape a₀ a f → FrontTold w k f rows₀ set extra rows → ((d : ℕ) (os : List Level) (g : Front) → d + depth ≡ openLimit → Comes s a₀ (within k d os g none due) a (within k d os g f due))
           → JoinedAnswer w k s a₀ depth rows₀ (joined k set extra n) now
       go none sh td cm = absurd (other-place sh)
       go (some f) sh td cm =

@@ -6,6 +6,7 @@ use mathlib.Core.Option.{none}
 use Prim.Native.Nat.{ℕ, zero, suc, _+_, _<_, _≤_}
 use native.Mathlib.Omega.{arith}
 use lib.ListN.{length, getD, drop}
+use Rattle.expression_grammar.specs.TextRules.{openLimit}
 use Rattle.expression.specs.Expr.{Expr}
 use Rattle.expression_grammar.specs.Reader.{Sign, digit, joiner, opener, closer, other, sign, Front, Level, due, done, state, goes, opens, onward, run}
 use Rattle.expression_grammar.proofs.Signs.{Is, sign-is}
@@ -35,19 +36,19 @@ abbrev level : Front → Front → Level
 level g f = record { groups = g; primaries = f }
 
 module _ (w : ℕ) (s : List ℕ) (a depth : ℕ) (rows : List ℕ) (byte : getD s a 0 ≡ 40) where
-  pub pri-deep : 32 ≤ depth → Primary w s a depth rows (Bad a) rows
+  pub pri-deep : openLimit ≤ depth → Primary w s a depth rows (Bad a) rows
   pri-deep le = λ d os g f p. stuck s a (state d os g f due) (ap (λ b. next (state d os g f due) b) byte ∙ opens-none d os g f (omega arith)) refl
 
   opened : (d : ℕ) (os : List Level) (g f : Front) → Comes s a (state (suc d) os g f due) (a + 1) (state d (level g f ∷ os) none none due)
   opened d os g f = takes s a 40 (state (suc d) os g f due) (state d (level g f ∷ os) none none due) (omega arith) byte refl
 
-  pub pri-bad : depth < 32 → (r : ReadNode) (p : ℕ) (now : List ℕ) → Sequence w s (a + 1) (depth + 1) rows r now → r ≡ Bad p → Primary w s a depth rows (Bad p) now
+  pub pri-bad : depth < openLimit → (r : ReadNode) (p : ℕ) (now : List ℕ) → Sequence w s (a + 1) (depth + 1) rows r now → r ≡ Bad p → Primary w s a depth rows (Bad p) now
   pri-bad less r p now h q = λ d. go d
     where
       h′ : Sequence w s (a + 1) (depth + 1) rows (Bad p) now
       h′ = subst (λ z. Sequence w s (a + 1) (depth + 1) rows z now) q h
 
-      go : (d : ℕ) (os : List Level) (g f : Front) → d + depth ≡ 32 → Refuses s a (state d os g f due) p
+      go : (d : ℕ) (os : List Level) (g f : Front) → d + depth ≡ openLimit → Refuses s a (state d os g f due) p
       go zero os g f e = absurd (omega arith)
       go (suc d) os g f e = opened d os g f ∙ h′ d (level g f ∷ os) none none (omega arith)
 
@@ -58,15 +59,15 @@ sequence-within w s a depth rows r n now h q = (subst (λ z. Sequence w s a dept
 -- a parenthesis is opened at the place a, and a sequence is read behind it
 pub record Inner (w : ℕ) (s : List ℕ) (a depth : ℕ) (rows : List ℕ) (n : Node) (now : List ℕ) : Type 0 where
   pub byte : getD s a 0 ≡ 40
-  pub less : depth < 32
+  pub less : depth < openLimit
   pub part : Sequence w s (a + 1) (depth + 1) rows (Read n) now
 
-pub inner : (w : ℕ) (s : List ℕ) (a depth : ℕ) (rows : List ℕ) (n : Node) (now : List ℕ) (r : ReadNode) → getD s a 0 ≡ 40 → depth < 32
+pub inner : (w : ℕ) (s : List ℕ) (a depth : ℕ) (rows : List ℕ) (n : Node) (now : List ℕ) (r : ReadNode) → getD s a 0 ≡ 40 → depth < openLimit
     → Sequence w s (a + 1) (depth + 1) rows r now → r ≡ Read n → Inner w s a depth rows n now
 inner w s a depth rows n now r byte less h q = record { byte = byte; less = less; part = subst (λ z. Sequence w s (a + 1) (depth + 1) rows z now) q h }
 
 module _ {w : ℕ} {s : List ℕ} {a depth : ℕ} {rows : List ℕ} {n : Node} {now : List ℕ} (i : Inner w s a depth rows n now) where
-  enters : (d : ℕ) (os : List Level) (g f : Front) → d + (depth + 1) ≡ 32 → Comes s a (state (suc d) os g f due) (n .end) (state d (level g f ∷ os) none none (done (i .part .0)))
+  enters : (d : ℕ) (os : List Level) (g f : Front) → d + (depth + 1) ≡ openLimit → Comes s a (state (suc d) os g f due) (n .end) (state d (level g f ∷ os) none none (done (i .part .0)))
   enters d os g f p = opened w s a depth rows (i .byte) d os g f ∙ i .part .5 d (level g f ∷ os) none none p
 
   pub inner-shut : getD s (n .end) 0 ≡ 41 → Primary w s a depth rows (Read (record { kind = n .kind; set = n .set; extra = n .extra; end = n .end + 1 })) now
@@ -75,7 +76,7 @@ module _ {w : ℕ} {s : List ℕ} {a depth : ℕ} {rows : List ℕ} {n : Node} {
       let q : n .end < length s = byte-inside s (n .end) 41 (omega arith) b in
       (i .part .0, omega arith, omega arith, tt, i .part .4, λ d. go d)
     where
-      go : (d : ℕ) (os : List Level) (g f : Front) → d + depth ≡ 32 → Comes s a (state d os g f due) (n .end + 1) (state d os g f (done (i .part .0)))
+      go : (d : ℕ) (os : List Level) (g f : Front) → d + depth ≡ openLimit → Comes s a (state d os g f due) (n .end + 1) (state d os g f (done (i .part .0)))
       go zero os g f p = absurd (omega arith)
       go (suc d) os g f p =
           enters d os g f (omega arith)
@@ -84,7 +85,7 @@ module _ {w : ℕ} {s : List ℕ} {a depth : ℕ} {rows : List ℕ} {n : Node} {
   pub inner-left : ((getD s (n .end) 0 ≡ 41) → ⊥) → Primary w s a depth rows (Bad (n .end)) now
   inner-left b = λ d. go d
     where
-      go : (d : ℕ) (os : List Level) (g f : Front) → d + depth ≡ 32 → Refuses s a (state d os g f due) (n .end)
+      go : (d : ℕ) (os : List Level) (g f : Front) → d + depth ≡ openLimit → Refuses s a (state d os g f due) (n .end)
       go zero os g f p = absurd (omega arith)
       go (suc d) os g f p =
           enters d os g f (omega arith)
@@ -102,7 +103,7 @@ closes-none d x b other i m = refl
 
 module _ (w : ℕ) (s rows : List ℕ) (r : ReadNode) (now : List ℕ) (h : Sequence w s 0 0 rows r now) where
   pub whole-bad : (p : ℕ) → r ≡ Bad p → Parsed w s rows (Bad p) rows
-  whole-bad p q = ((subst (λ z. Sequence w s 0 0 rows z now) q h) 32 [] none none refl, refl)
+  whole-bad p q = ((subst (λ z. Sequence w s 0 0 rows z now) q h) openLimit [] none none refl, refl)
 
   module _ (n : Node) (q : r ≡ Read n) where
     outer : Sequence w s 0 0 rows (Read n) now
@@ -110,12 +111,12 @@ module _ (w : ℕ) (s rows : List ℕ) (r : ReadNode) (now : List ℕ) (h : Sequ
 
     pub whole-left : n .end < length s → Parsed w s rows (Bad (n .end)) rows
     whole-left lt = (
-      outer .5 32 [] none none refl
-          ∙ run-at s (n .end) (state 32 [] none none (done (outer .0))) lt
-          ∙ ap (λ o. onward o (n .end) (λ r. run (drop (suc (n .end)) s) (suc (n .end)) r)) (closes-none 32 (outer .0) (getD s (n .end) 0) (sign (getD s (n .end) 0)) (sign-is (getD s (n .end) 0)) (outer .3)),
+      outer .5 openLimit [] none none refl
+          ∙ run-at s (n .end) (state openLimit [] none none (done (outer .0))) lt
+          ∙ ap (λ o. onward o (n .end) (λ r. run (drop (suc (n .end)) s) (suc (n .end)) r)) (closes-none openLimit (outer .0) (getD s (n .end) 0) (sign (getD s (n .end) 0)) (sign-is (getD s (n .end) 0)) (outer .3)),
       refl,
     )
 
     pub whole-done : length s ≤ n .end → Parsed w s rows (Read n) now
     whole-done le =
-        (outer .0, outer .5 32 [] none none refl ∙ run-end s (n .end) (state 32 [] none none (done (outer .0))) le, omega (arith, outer .2), outer .4)
+        (outer .0, outer .5 openLimit [] none none refl ∙ run-end s (n .end) (state openLimit [] none none (done (outer .0))) le, omega (arith, outer .2), outer .4)

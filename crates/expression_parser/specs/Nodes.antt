@@ -5,6 +5,7 @@ use mathlib.Core.List.{List}
 use Prim.Native.Nat.{ℕ, zero, suc, _+_, _-_, _<_, _≤_}
 use lib.Dec.{leb}
 use lib.ListN.{length, getD, drop}
+use Rattle.expression_grammar.specs.TextRules.{openLimit}
 use Rattle.sets.specs.Sets.{has, single}
 use Rattle.graph.specs.Graph.{behind, Words}
 use Rattle.expression.specs.Expr.{Expr, goal, join, times, stands, before}
@@ -55,10 +56,10 @@ Refuses s a x p = run (drop a s) a x ≡ stops p
 -- A reader's answer at the place a, with `depth` parentheses open: where the grammar's reader refuses; or where it comes to, with an expression
 -- of which the node and the rows tell. `st` gives the states, `Stop` says what the next byte is not.
 abbrev pub Answer : ℕ → (ℕ → List Level → Front → Front → Phase → State) → (ℕ → Type 0) → List ℕ → ℕ → ℕ → List ℕ → ReadNode → List ℕ → Type 0
-Answer w st Stop s a depth rows (Bad p) now = (d : ℕ) (os : List Level) (g f : Front) → d + depth ≡ 32 → Refuses s a (st d os g f due) p
+Answer w st Stop s a depth rows (Bad p) now = (d : ℕ) (os : List Level) (g f : Front) → d + depth ≡ openLimit → Refuses s a (st d os g f due) p
 Answer w st Stop s a depth rows (Read node) now =
     (x : Expr) × (a < node .end) × (node .end ≤ length s) × Stop (getD s (node .end) 0) × Told w x rows (node .kind) (node .set) (node .extra) now
-    × ((d : ℕ) (os : List Level) (g f : Front) → d + depth ≡ 32 → Comes s a (st d os g f due) (node .end) (st d os g f (done x)))
+    × ((d : ℕ) (os : List Level) (g f : Front) → d + depth ≡ openLimit → Comes s a (st d os g f due) (node .end) (st d os g f (done x)))
 
 abbrev pub Primary : ℕ → List ℕ → ℕ → ℕ → List ℕ → ReadNode → List ℕ → Type 0
 Primary w = Answer w (λ d os g f x. state d os g f x) (λ b. Unit {0})

@@ -5,6 +5,7 @@ use mathlib.Core.List.{List}
 use mathlib.Core.Option.{none}
 use Prim.Native.Nat.{ℕ}
 use lib.ListN.{length}
+use Rattle.expression_grammar.specs.TextRules.{openLimit}
 use Rattle.expression.specs.Expr.{Expr}
 use Rattle.expression_grammar.specs.Reader.{Front, Level, Phase, State, state, reads, stops, read}
 use Rattle.expression_parser.specs.declared.ReadNode.{ReadNode}
@@ -29,5 +30,5 @@ Sequence w = Answer w (λ d os g f x. state d os none none x) NoMark
 
 -- The whole text: the grammar's reader refuses it, and the rows are as before; or it accepts it with an expression of which the node and the rows tell.
 abbrev pub Parsed : ℕ → List ℕ → List ℕ → ReadNode → List ℕ → Type 0
-Parsed w s rows (Bad p) now = (read 32 s ≡ stops p) × (now ≡ rows)
-Parsed w s rows (Read node) now = (x : Expr) × (read 32 s ≡ reads x) × (node .end ≡ length s) × Told w x rows (node .kind) (node .set) (node .extra) now
+Parsed w s rows (Bad p) now = (read openLimit s ≡ stops p) × (now ≡ rows)
+Parsed w s rows (Read node) now = (x : Expr) × (read openLimit s ≡ reads x) × (node .end ≡ length s) × Told w x rows (node .kind) (node .set) (node .extra) now

@@ -6,6 +6,8 @@ ghost use mathlib.Core.Path.{_≡_};
 ghost use Prim.Native.Nat.{_≤_};
 ghost use lib.Dec.{leb};
 ghost use lib.ListN.{getD};
+ghost use Rattle.sets.specs.Sets.{goalLimit};
+ghost use Rattle.expression_grammar.specs.TextRules.{openLimit};
 ghost use Rattle.graph.specs.Graph.{Words};
 ghost use Rattle.expression_parser.specs.Nodes.{maskOf, extraOf, found, Numbered, Primary};
 ghost use Rattle.expression_parser.specs.Readers.{Sequence, Group, Parsed};
@@ -36,7 +38,7 @@ pub enum ReadNode {
 
 // No further parenthesis may be opened.
 pub fn full(depth: usize) -> bool
-    ensures { λ r. ⌜ r ≡ leb 32 depth ⌝ }
+    ensures { λ r. ⌜ r ≡ leb openLimit depth ⌝ }
 {
     DEEPEST <= depth
 }
@@ -44,21 +46,21 @@ pub fn full(depth: usize) -> bool
 // The set of one number: empty if it is above 32.
 fn mask_of(v: usize) -> u32
     requires { ⌜ 1 ≤ v ⌝ }
-    ensures { λ r. ⌜ r ≡ maskOf 32 v ⌝ }
+    ensures { λ r. ⌜ r ≡ maskOf goalLimit v ⌝ }
 {
     if v <= Graph::MAX { Graph::single(v) } else { 0 }
 }
 
 // Not 0 if the number is above 32.
 fn extra_of(v: usize) -> u32
-    ensures { λ r. ⌜ r ≡ extraOf 32 v ⌝ }
+    ensures { λ r. ⌜ r ≡ extraOf goalLimit v ⌝ }
 {
     if v <= Graph::MAX { 0 } else { 1 }
 }
 
 fn goal(v: usize, end: usize) -> ReadNode
     requires { ⌜ 1 ≤ v ⌝ }
-    ensures { λ r. ⌜ r ≡ found 32 v end ⌝ }
+    ensures { λ r. ⌜ r ≡ found goalLimit v end ⌝ }
 {
     let kind = Kind::Goal;
     let set = mask_of(v);
@@ -74,7 +76,7 @@ fn goal(v: usize, end: usize) -> ReadNode
 // A digit 1 to 9, then at most one further digit.
 pub fn number(text: &[u8], at: usize) -> ReadNode
     requires { ⌜ (getD (now text) at 0 ≡ 40 → ⊥) ⌝ }
-    ensures { λ r. ⌜ Numbered 32 (now (text .entry)) at r ⌝ }
+    ensures { λ r. ⌜ Numbered goalLimit (now (text .entry)) at r ⌝ }
 {
     let b = buffer::byte(text, at) as usize;
     if b < 49 {
@@ -95,8 +97,8 @@ pub fn number(text: &[u8], at: usize) -> ReadNode
 
 // Groups joined by `,`: each is before all that come after it.
 fn sequence(text: &[u8], start: usize, depth: usize, rows: &mut [u32; Graph::MAX]) -> ReadNode
-    requires { ⌜ Words 32 (now rows) ⌝ }
-    ensures { λ r. ⌜ Sequence 32 (now (text .entry)) start depth (now (rows .entry)) r (now (rows .exit)) ⌝ }
+    requires { ⌜ Words goalLimit (now rows) ⌝ }
+    ensures { λ r. ⌜ Sequence goalLimit (now (text .entry)) start depth (now (rows .entry)) r (now (rows .exit)) ⌝ }
 {
     let mut at = start;
     let mut set: u32 = 0;
@@ -133,8 +135,8 @@ fn sequence(text: &[u8], start: usize, depth: usize, rows: &mut [u32; Graph::MAX
 
 // Primaries joined by `&`: no order among them.
 fn group(text: &[u8], start: usize, depth: usize, rows: &mut [u32; Graph::MAX]) -> ReadNode
-    requires { ⌜ Words 32 (now rows) ⌝ }
-    ensures { λ r. ⌜ Group 32 (now (text .entry)) start depth (now (rows .entry)) r (now (rows .exit)) ⌝ }
+    requires { ⌜ Words goalLimit (now rows) ⌝ }
+    ensures { λ r. ⌜ Group goalLimit (now (text .entry)) start depth (now (rows .entry)) r (now (rows .exit)) ⌝ }
 {
     let mut at = start;
     let mut set: u32 = 0;
@@ -170,8 +172,8 @@ fn group(text: &[u8], start: usize, depth: usize, rows: &mut [u32; Graph::MAX]) 
 
 // A number, or a sequence in parentheses.
 fn primary(text: &[u8], at: usize, depth: usize, rows: &mut [u32; Graph::MAX]) -> ReadNode
-    requires { ⌜ Words 32 (now rows) ⌝ }
-    ensures { λ r. ⌜ Primary 32 (now (text .entry)) at depth (now (rows .entry)) r (now (rows .exit)) ⌝ }
+    requires { ⌜ Words goalLimit (now rows) ⌝ }
+    ensures { λ r. ⌜ Primary goalLimit (now (text .entry)) at depth (now (rows .entry)) r (now (rows .exit)) ⌝ }
 {
     if buffer::byte(text, at) == 40 {
         if full(depth) {
@@ -205,8 +207,8 @@ fn primary(text: &[u8], at: usize, depth: usize, rows: &mut [u32; Graph::MAX]) -
 
 // The whole text. A refusal leaves the rows as they were.
 pub fn parse(text: &[u8], rows: &mut [u32; Graph::MAX]) -> ReadNode
-    requires { ⌜ Words 32 (now rows) ⌝ }
-    ensures { λ r. ⌜ Parsed 32 (now (text .entry)) (now (rows .entry)) r (now (rows .exit)) ⌝ }
+    requires { ⌜ Words goalLimit (now rows) ⌝ }
+    ensures { λ r. ⌜ Parsed goalLimit (now (text .entry)) (now (rows .entry)) r (now (rows .exit)) ⌝ }
 {
     let kept = *rows;
     let part = sequence(text, 0, 0, rows);

@@ -11,7 +11,7 @@ use lib.Dec.{ltb}
 use lib.ListN.{length, getD, replicate, getD-replicate}
 use borrow.Author.Tests.{leb-true, le-leb, lt-leb, lt-ltb, le-ltb, ltb-true}
 use Rattle.logic.proofs.Bools.{test, is-false}
-use Rattle.sets.specs.Sets.{has, subset, below}
+use Rattle.sets.specs.Sets.{goalLimit, has, subset, below}
 use Rattle.sets.proofs.Membership.{has-empty, has-below, member-below, none-empty, subset-has, has-subset}
 use Rattle.sets.proofs.Builder.{members-lt}
 use Rattle.graph.specs.Graph.{hasGoal, behind, goalsOf, rowsOf, Within, transposed, Words}
@@ -22,7 +22,7 @@ use Rattle.expression.proofs.Spec.{in-stands, before-in}
 use Rattle.expression_grammar.specs.Reader.{reads, read}
 use Rattle.expression_grammar.specs.Numbers.{numbers, fault, missing, misuse}
 use Rattle.record_rules.specs.Outcome.{refused}
-use Rattle.expression_grammar.specs.TextRules.{numbered, decided, readText}
+use Rattle.expression_grammar.specs.TextRules.{expressionLimit, openLimit, numbered, decided, readText}
 use Rattle.expression_grammar.proofs.Decides.{read-accepts}
 use Rattle.expression_grammar.proofs.Goals.{count, values, count-goals, text-goals, fault-good, missing-none, none-missing, misuse-none}
 use Rattle.expression_parser.specs.declared.Node.{Node}
@@ -87,12 +87,12 @@ module _ (w n : ℕ) (few : n ≤ w) (s : List ℕ) (set extra : ℕ) (h : Count
 
   pub fault-none : Nowhere ≡ faultIn n s
   fault-none =
-      sym (ap spot (first-none (fault n [] (numbers s)) (cond (missing n (h .0)) (some (length s)) none) (misuse-none 32 n s (h .0) (read-accepts 32 s (h .0) .0 (h .1)) .1 uses)))
+      sym (ap spot (first-none (fault n [] (numbers s)) (cond (missing n (h .0)) (some (length s)) none) (misuse-none openLimit n s (h .0) (read-accepts openLimit s (h .0) .0 (h .1)) .1 uses)))
 
 -- ---- nothing is at fault: no number is above n
-low : (n : ℕ) (s : List ℕ) (x : Expr) → read 32 s ≡ reads x → fault n [] (numbers s) ≡ none → (v : ℕ) → stands x v ≡ true → v ≤ n
+low : (n : ℕ) (s : List ℕ) (x : Expr) → read openLimit s ≡ reads x → fault n [] (numbers s) ≡ none → (v : ℕ) → stands x v ≡ true → v ≤ n
 low n s x q f v h =
-    let same : count (values (numbers s)) v ≡ times x v = ap (λ z. count z v) (text-goals 32 s x (read-accepts 32 s x .0 q)) ∙ count-goals x v in
+    let same : count (values (numbers s)) v ≡ times x v = ap (λ z. count z v) (text-goals openLimit s x (read-accepts openLimit s x .0 q)) ∙ count-goals x v in
     fault-good n [] (numbers s) f v (omega (arith, leb-true 1 (times x v) h)) .0
 
 -- ---- the graph and the set of an expression that has no number above n
@@ -132,27 +132,27 @@ module _ (n : ℕ) (s : List ℕ) where
   unfolding readText
   text-short h = rw (lt-leb 1 (length s) h)
 
-  pub text-long : 512 < length s → refused 15 0 ≡ readText n s
+  pub text-long : expressionLimit < length s → refused 15 0 ≡ readText n s
   unfolding readText
-  text-long h = rw (le-leb 1 (length s) (omega arith), lt-leb (length s) 512 h)
+  text-long h = rw (le-leb 1 (length s) (omega arith), lt-leb (length s) expressionLimit h)
 
-  module _ (lo : 1 ≤ length s) (hi : length s ≤ 512) where
-    sized : readText n s ≡ decided n s (read 32 s)
+  module _ (lo : 1 ≤ length s) (hi : length s ≤ expressionLimit) where
+    sized : readText n s ≡ decided n s (read openLimit s)
     unfolding readText
-    sized = rw (le-leb 1 (length s) lo, le-leb (length s) 512 hi)
+    sized = rw (le-leb 1 (length s) lo, le-leb (length s) expressionLimit hi)
 
-    module _ (r : ReadNode) (now : List ℕ) (h : Parsed 32 s (replicate 32 0) r now) where
+    module _ (r : ReadNode) (now : List ℕ) (h : Parsed goalLimit s (replicate goalLimit 0) r now) where
       pub text-bad : (p : ℕ) → r ≡ Bad p → refused 16 p ≡ readText n s
-      text-bad p e = sym (sized ∙ ap (λ z. decided n s z) ((subst (λ z. Parsed 32 s (replicate 32 0) z now) e h) .0))
+      text-bad p e = sym (sized ∙ ap (λ z. decided n s z) ((subst (λ z. Parsed goalLimit s (replicate goalLimit 0) z now) e h) .0))
 
       module _ (nd : Node) (q : r ≡ Done nd) where
-        parsed : Parsed 32 s (replicate 32 0) (Done nd) now
-        parsed = subst (λ z. Parsed 32 s (replicate 32 0) z now) q h
+        parsed : Parsed goalLimit s (replicate goalLimit 0) (Done nd) now
+        parsed = subst (λ z. Parsed goalLimit s (replicate goalLimit 0) z now) q h
 
         whole-read : readText n s ≡ numbered (parsed .0) (misuse n s (parsed .0))
         whole-read = sized ∙ ap (λ z. decided n s z) (parsed .1)
 
-        pub counted : Counted 32 s (nd .set) (nd .extra)
+        pub counted : Counted goalLimit s (nd .set) (nd .extra)
         counted = (parsed .0, parsed .1, parsed .3 .stand, parsed .3 .once)
 
         pub text-fault : (v : Spot) (p : ℕ) → v ≡ faultIn n s → v ≡ At p → refused 17 p ≡ readText n s
@@ -160,31 +160,31 @@ module _ (n : ℕ) (s : List ℕ) where
             let m : misuse n s (parsed .0) ≡ some p = rw (spot-some (fault n [] (numbers s)) p (sym g ∙ f)) in
             sym (whole-read ∙ ap (λ o. numbered (parsed .0) o) m)
 
-        module _ (few : n ≤ 32) (v : Spot) (f : v ≡ faultIn n s) (g : v ≡ Nowhere) where
+        module _ (few : n ≤ goalLimit) (v : Spot) (f : v ≡ faultIn n s) (g : v ≡ Nowhere) where
           misused : (b : Bool) → missing n (parsed .0) ≡ b → misuse n s (parsed .0) ≡ cond b (some (length s)) none
           misused b e = rw (spot-none (fault n [] (numbers s)) (sym g ∙ f)) (ap (λ z. cond z (some (length s)) none) e)
 
           pub text-lacks : subset (below n) (nd .set) ≡ false → refused 17 (length s) ≡ readText n s
           text-lacks l =
-              sym (whole-read ∙ ap (λ o. numbered (parsed .0) o) (misused true (some-lack 32 n (parsed .0) (nd .set) few (parsed .3 .stand) l)))
+              sym (whole-read ∙ ap (λ o. numbered (parsed .0) o) (misused true (some-lack goalLimit n (parsed .0) (nd .set) few (parsed .3 .stand) l)))
 
           module _ (small : nd .set < 2 ^ 32) where
             most : (v : ℕ) → stands (parsed .0) v ≡ true → v ≤ n
             most v e = low n s (parsed .0) (parsed .1) (spot-none (fault n [] (numbers s)) (sym g ∙ f)) v e
 
-            order : (i j : ℕ) → i < 32 → j < 32 → behind now (suc i) (suc j) ≡ before (parsed .0) (suc i) (suc j)
+            order : (i j : ℕ) → i < goalLimit → j < goalLimit → behind now (suc i) (suc j) ≡ before (parsed .0) (suc i) (suc j)
             order i j a b =
-                parsed .3 .order i j a b ∙ ap (λ z. z || before (parsed .0) (suc i) (suc j)) (ap (λ z. has z i) (getD-replicate 32 j 0 0 b) ∙ has-empty i)
+                parsed .3 .order i j a b ∙ ap (λ z. z || before (parsed .0) (suc i) (suc j)) (ap (λ z. has z i) (getD-replicate goalLimit j 0 0 b) ∙ has-empty i)
 
             -- the rows are turned round
-            pub text-within : Within 32 n now
-            text-within = turned-within 32 n (parsed .0) (nd .set) now few most small (parsed .3 .stand) order (parsed .3 .words)
+            pub text-within : Within goalLimit n now
+            text-within = turned-within goalLimit n (parsed .0) (nd .set) now few most small (parsed .3 .stand) order (parsed .3 .words)
 
-            pub text-done : subset (below n) (nd .set) ≡ true → (rows : List ℕ) → rows ≡ transposed 32 n now
+            pub text-done : subset (below n) (nd .set) ≡ true → (rows : List ℕ) → rows ≡ transposed goalLimit n now
                 → _≡_ {A = TextReading} (record { outcome = Fine; graph = record { n = n; rows = rows }; met = nd .set }) (textAnswer n (readText n s))
             text-done l rows e =
                 let w = parsed .3 .words in
                 ap₂ (λ a b. record { outcome = Fine; graph = record { n = n; rows = a }; met = b })
-                (e ∙ rows-are 32 n (parsed .0) (nd .set) now few most small (parsed .3 .stand) order w)
-                (met-is 32 n (parsed .0) (nd .set) now few most small (parsed .3 .stand) order w)
-                ∙ sym (ap (λ z. textAnswer n z) (whole-read ∙ ap (λ o. numbered (parsed .0) o) (misused false (all-there 32 n (parsed .0) (nd .set) few (parsed .3 .stand) l))))
+                (e ∙ rows-are goalLimit n (parsed .0) (nd .set) now few most small (parsed .3 .stand) order w)
+                (met-is goalLimit n (parsed .0) (nd .set) now few most small (parsed .3 .stand) order w)
+                ∙ sym (ap (λ z. textAnswer n z) (whole-read ∙ ap (λ o. numbered (parsed .0) o) (misused false (all-there goalLimit n (parsed .0) (nd .set) few (parsed .3 .stand) l))))

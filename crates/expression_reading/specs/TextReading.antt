@@ -6,6 +6,7 @@ use mathlib.Core.Option.{Option, none, some}
 use Prim.Native.Nat.{ℕ, suc, _+_, _-_, _<_, _≤_}
 use lib.Dec.{leb}
 use lib.ListN.{getD}
+use Rattle.expression_grammar.specs.TextRules.{openLimit}
 use Rattle.sets.specs.Sets.{has}
 use Rattle.graph.specs.Graph.{goalsOf, graphOf, edgeless}
 use Rattle.expression.specs.Expr.{Expr, times, stands, before}
@@ -41,7 +42,7 @@ faultIn n s = spot (Numbers.fault n [] (numbers s))
 -- the set tells the numbers up to w of a text's expression, and a word of 0 that they stand in it once and no other does
 abbrev pub Counted : ℕ → List ℕ → ℕ → ℕ → Type 0
 Counted w s set extra =
-    (x : Expr) × (read 32 s ≡ reads x) × ((i : ℕ) → i < w → has set i ≡ stands x (suc i)) × (extra ≡ 0 → (v : ℕ) → times x v ≤ bit set v)
+    (x : Expr) × (read openLimit s ≡ reads x) × ((i : ℕ) → i < w → has set i ≡ stands x (suc i)) × (extra ≡ 0 → (v : ℕ) → times x v ≤ bit set v)
 
 -- "A refusal returns its number and a place, every other field zero"
 abbrev pub turned : ℕ → ℕ → TextReading

@@ -7,6 +7,7 @@ ghost use mathlib.Core.Path.{_≡_};
 ghost use mathlib.Core.Bool.{true};
 ghost use Prim.Native.Nat.{_<_, _≤_, _^_};
 ghost use lib.ListN.{getD};
+ghost use Rattle.sets.specs.Sets.{goalLimit};
 ghost use Rattle.expression_grammar.specs.TextRules.{readText};
 ghost use Rattle.expression_reading.specs.TextReading.{isDigit, valueAt, faultIn, Counted, turned, textAnswer};
 
@@ -49,7 +50,7 @@ fn number_at(text: &[u8], at: usize) -> u32
 
 // The leftmost number above n or met before.
 fn fault(text: &[u8], n: usize) -> Spot
-    requires { ⌜ n ≤ 32 ⌝ }
+    requires { ⌜ n ≤ goalLimit ⌝ }
     ensures { λ r. ⌜ r ≡ faultIn n (now (text .entry)) ⌝ }
 {
     let mut at: usize = 0;
@@ -74,7 +75,7 @@ fn fault(text: &[u8], n: usize) -> Spot
 
 // The same, from the set and the word that the node of a whole text has: it is scanned only if they do not show that each goal stands in it once.
 fn fault_of(text: &[u8], n: usize, set: u32, extra: u32) -> Spot
-    requires { ⌜ (n ≤ 32) × Counted 32 (now text) set extra ⌝ }
+    requires { ⌜ (n ≤ goalLimit) × Counted goalLimit (now text) set extra ⌝ }
     ensures { λ r. ⌜ r ≡ faultIn n (now (text .entry)) ⌝ }
 {
     if extra == 0 {
@@ -98,7 +99,7 @@ fn refused(number: u8, place: usize) -> TextReading
 }
 
 pub fn read_text(text: &[u8], n: usize) -> TextReading
-    requires { ⌜ n ≤ 32 ⌝ }
+    requires { ⌜ n ≤ goalLimit ⌝ }
     ensures { λ r. ⌜ r ≡ textAnswer n (readText n (now (text .entry))) ⌝ }
 {
     let len = text.len();

@@ -4,6 +4,7 @@ use mathlib.Core.Bool.{Bool}
 use mathlib.Core.List.{List}
 use mathlib.Core.Option.{Option, none, some}
 use Prim.Native.Nat.{ℕ, _≤_}
+use Rattle.sets.specs.Sets.{goalLimit}
 use Rattle.record_rules.specs.declared.Reading.the-variants.{Fine}
 use Rattle.record_rules.specs.Reading.{reading}
 use Rattle.record_fields.specs.Fields.{goalCount}
@@ -87,27 +88,27 @@ module _ (b : List ℕ) (fine : reading b ≡ Fine) where
   pub goals-from : 1 ≤ goalCount b
   goals-from = fine-well-formed b fine .goals-from
 
-  pub goals-to : goalCount b ≤ 32
+  pub goals-to : goalCount b ≤ goalLimit
   goals-to = fine-well-formed b fine .goals-to
 
-  rows-agree : (i j : ℕ) → Goals (goalCount b) i → Goals (goalCount b) j → ahead (rowsOf 32 (goalCount b) (before b)) i j ≡ before b i j
-  rows-agree i j p q = rows-say 32 (goalCount b) (before b) i j goals-to (p .0) (p .1) (q .0) (q .1)
+  rows-agree : (i j : ℕ) → Goals (goalCount b) i → Goals (goalCount b) j → ahead (rowsOf goalLimit (goalCount b) (before b)) i j ≡ before b i j
+  rows-agree i j p q = rows-say goalLimit (goalCount b) (before b) i j goals-to (p .0) (p .1) (q .0) (q .1)
 
   module _ (g : Graph) (e : g ≡ order b) where
-    pub graph-asks : (1 ≤ g .n) × (g .n ≤ 32) × Strict (ahead (g .rows)) (Goals (g .n)) × Within 32 (g .n) (g .rows)
+    pub graph-asks : (1 ≤ g .n) × (g .n ≤ goalLimit) × Strict (ahead (g .rows)) (Goals (g .n)) × Within goalLimit (g .n) (g .rows)
     unfolding order
     graph-asks =
-        subst (λ (x : Graph). (1 ≤ x .n) × (x .n ≤ 32) × Strict (ahead (x .rows)) (Goals (x .n)) × Within 32 (x .n) (x .rows)) (sym e)
-        (goals-from, goals-to, strict-rows (ahead (rowsOf 32 (goalCount b) (before b))) (before b) (goalCount b) rows-agree goals-from (before-order b), rows-within 32 (goalCount b) (before b) goals-to)
+        subst (λ (x : Graph). (1 ≤ x .n) × (x .n ≤ goalLimit) × Strict (ahead (x .rows)) (Goals (x .n)) × Within goalLimit (x .n) (x .rows)) (sym e)
+        (goals-from, goals-to, strict-rows (ahead (rowsOf goalLimit (goalCount b) (before b))) (before b) (goalCount b) rows-agree goals-from (before-order b), rows-within goalLimit (goalCount b) (before b) goals-to)
 
     pub graph-text : orThirteen (firstN (ahead (g .rows)) (g .n)) (text (formAny (ahead (g .rows)) (g .n))) ≡ formText b
     unfolding order
     graph-text =
         ap (λ (x : Graph). orThirteen (firstN (ahead (x .rows)) (x .n)) (text (formAny (ahead (x .rows)) (x .n)))) e
-        ∙ text-same (ahead (rowsOf 32 (goalCount b) (before b))) (before b) (goalCount b) rows-agree goals-from (before-order b) ∙ sym (form-fine b fine)
+        ∙ text-same (ahead (rowsOf goalLimit (goalCount b) (before b))) (before b) (goalCount b) rows-agree goals-from (before-order b) ∙ sym (form-fine b fine)
 
     pub graph-shown : firstN (ahead (g .rows)) (g .n) ≡ shown b
     unfolding order
     graph-shown =
         ap (λ (x : Graph). firstN (ahead (x .rows)) (x .n)) e
-        ∙ first-same (ahead (rowsOf 32 (goalCount b) (before b))) (before b) (goalCount b) rows-agree goals-from (before-order b) ∙ sym (shown-fine b fine)
+        ∙ first-same (ahead (rowsOf goalLimit (goalCount b) (before b))) (before b) (goalCount b) rows-agree goals-from (before-order b) ∙ sym (shown-fine b fine)

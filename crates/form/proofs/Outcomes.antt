@@ -1,21 +1,25 @@
 -- What writing the form answers, by what reading and the search for an N give; and the length estimate.
-use mathlib.Core.Path.{_≡_, refl, sym, ap, _∙_, subst}
-use mathlib.Core.List.{List}
+use mathlib.Core.Path.{_≡_, refl, sym, ap, ap₂, _∙_}
+use mathlib.Core.Bool.{Bool, cond}
+use mathlib.Core.List.{List, _++_}
 use mathlib.Core.Option.{Option, none, some}
 use Prim.Native.Nat.{ℕ, _≤_}
 use native.Mathlib.Omega.{arith}
-use lib.ListN.{length}
+use lib.ListN.{length, take, drop, length-append}
+use lib.Seq.{take-at}
+use Rattle.buffer.specs.Lent.{stored}
+use Rattle.buffer.proofs.Lent.{fits-le}
 use Rattle.record_rules.specs.declared.Reading.the-variants.{Fine, Refused}
 use Rattle.record_rules.specs.declared.Refusal.{Refusal}
 use Rattle.record_rules.specs.Reading.{reading}
-use Rattle.record_rules.specs.Outcome.{Outcome, refused, accepted, sizeIn, values}
-use Rattle.record_rules.proofs.Outcomes.{read-refused, read-fine, size-fits}
+use Rattle.record_rules.specs.Outcome.{Outcome, refused, accepted, sizeIn, bufferAfter, values}
+use Rattle.record_rules.proofs.Outcomes.{told-apart, one-value, one-refusal, read-refused, read-fine, size-fits}
 use Rattle.record_fields.specs.Fields.{goalCount}
 use Rattle.expression.specs.Search.{Four}
 use Rattle.expression.specs.Form.{form}
 use Rattle.expression.specs.Text as T
 use Rattle.order.specs.Order.{before}
-use Rattle.form.specs.Form.{orThirteen, firstFour, formText, shown, Estimated}
+use Rattle.form.specs.Form.{estimateLimit, orThirteen, firstFour, formText, shown, Estimated}
 
 -- ---- the search's answer
 module _ {o : Option Four} (t : List ℕ) where
@@ -43,9 +47,38 @@ module _ (b : List ℕ) where
   unfolding shown
   shown-fine e = sym (ap (λ (o : Outcome (Option Four)). values none o .value) (read-fine b _ refl e))
 
--- ---- the estimate: the length of a text that is written into a buffer which holds it
-pub estimated : (x : Outcome (List ℕ)) {o : Outcome ℕ} (buf : List ℕ) → o ≡ sizeIn x buf → length buf ≤ 160
-    → ((t : List ℕ) → x ≡ accepted t → length t ≤ length buf) → Estimated x o
-estimated (refused k p) buf e m h = e
-estimated (accepted t) buf e m h =
+-- ---- a buffer that holds the text, whichever it is: the answer is its length, and it is the buffer's first bytes; or the refusal that comes before it
+abbrev pub Held : Outcome (List ℕ) → List ℕ → Type 0
+Held x buf = (t : List ℕ) → x ≡ accepted t → length t ≤ length buf
+
+pub stored-fit : (t buf : List ℕ) → length t ≤ length buf → stored t buf ≡ t ++ drop (length t) buf
+unfolding stored
+stored-fit t buf h = ap (λ (x : Bool). cond x (t ++ drop (length t) buf) buf) (fits-le t buf h)
+
+module _ (t buf : List ℕ) (h : length t ≤ length buf) {k : ℕ} (e : accepted k ≡ sizeIn (accepted t) buf) where
+  size-is : k ≡ length t
+  size-is = one-value (e ∙ sym (size-fits t buf refl h))
+
+  size-held : k ≤ length (stored t buf)
+  size-held = omega (arith, size-is, ap length (stored-fit t buf h), length-append t (drop (length t) buf))
+
+  first-bytes : take k (stored t buf) ≡ t
+  first-bytes = ap (take k) (stored-fit t buf h) ∙ take-at t (drop (length t) buf) k (sym size-is)
+
+pub held-size : (x : Outcome (List ℕ)) (buf : List ℕ) → Held x buf → {k : ℕ} → accepted k ≡ sizeIn x buf → k ≤ length (bufferAfter x buf)
+held-size (refused l q) buf h e = absurd (told-apart (sym e))
+held-size (accepted t) buf h e = size-held t buf (h t refl) e
+
+pub held-text : (x : Outcome (List ℕ)) (buf : List ℕ) → Held x buf → {k : ℕ} → accepted k ≡ sizeIn x buf → accepted (take k (bufferAfter x buf)) ≡ x
+held-text (refused l q) buf h e = absurd (told-apart (sym e))
+held-text (accepted t) buf h e = ap accepted (first-bytes t buf (h t refl) e)
+
+pub held-refused : (x : Outcome (List ℕ)) (buf : List ℕ) → Held x buf → {k p : ℕ} → refused k p ≡ sizeIn x buf → refused k p ≡ x
+held-refused (refused l q) buf h e = let (m, n) = one-refusal e in ap₂ refused m n
+held-refused (accepted t) buf h e = absurd (told-apart (e ∙ sym (size-fits t buf refl (h t refl))))
+
+-- ---- the estimate: that answer
+pub estimated : (x : Outcome (List ℕ)) (buf : List ℕ) → Held x buf → {o : Outcome ℕ} → o ≡ sizeIn x buf → length buf ≤ estimateLimit → Estimated x o
+estimated (refused k p) buf h e m = e
+estimated (accepted t) buf h e m =
     record { number = length t; least = omega arith; most = omega (arith, h t refl, m); gives = e ∙ sym (size-fits t buf refl (h t refl)) }

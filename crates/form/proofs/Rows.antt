@@ -9,14 +9,14 @@ use native.Mathlib.Omega.{arith}
 use lib.ListN.{length}
 use lib.Pow.{pow-pos, pow-mono}
 use borrow.Author.Tests.{lt-ltb, ltb-true}
-use Rattle.sets.specs.Sets.{has, below}
+use Rattle.sets.specs.Sets.{goalLimit, has, below}
 use Rattle.sets.proofs.Membership.{has-below}
 use Rattle.graph.specs.Graph.{ahead, transposed}
 use Rattle.graph.proofs.Rows.{transposed-says}
 use Rattle.expression.specs.Expr.{Goals}
 use Rattle.expression.specs.Arrange.{Strict, formAny}
 use Rattle.expression.specs.Search.{firstN}
-use Rattle.expression.specs.Text.{text}
+use Rattle.expression.specs.Text.{formLimit, text}
 use Rattle.expression.proofs.Search.{not-found}
 use Rattle.expression.proofs.Split.{form-eq}
 use Rattle.expression.proofs.Uses.{house-form}
@@ -24,8 +24,8 @@ use Rattle.expression.proofs.Theorems.{form-any, text-fits}
 use Rattle.form_split.specs.Split.{Has, Ordered, formOf, formText}
 use Rattle.form_split.proofs.Forms.{form-of}
 
-module _ (rows prior : List ℕ) (n all : ℕ) (from : 1 ≤ n) (to : n ≤ 32) (strict : Strict (ahead rows) (Goals n)) (free : firstN (ahead rows) n ≡ none)
-    (turned : prior ≡ transposed 32 n rows) (full : all ≡ below n) where
+module _ (rows prior : List ℕ) (n all : ℕ) (from : 1 ≤ n) (to : n ≤ goalLimit) (strict : Strict (ahead rows) (Goals n)) (free : firstN (ahead rows) n ≡ none)
+    (turned : prior ≡ transposed goalLimit n rows) (full : all ≡ below n) where
   has-all : (i : ℕ) → Has all i ↔ Goals n i
   has-all zero = (λ h. absurd (false≢true h), λ h. absurd (omega (arith, h .0)))
   has-all (suc i) = (
@@ -46,7 +46,7 @@ module _ (rows prior : List ℕ) (n all : ℕ) (from : 1 ≤ n) (to : n ≤ 32) 
             λ i j p q.
             let g = has-all i .0 p in
             let h = has-all j .0 q in
-            ap (λ (l : List ℕ). ahead l j i) turned ∙ transposed-says 32 n rows i j to (g .0) (g .1) (h .0) (h .1);
+            ap (λ (l : List ℕ). ahead l j i) turned ∙ transposed-says goalLimit n rows i j to (g .0) (g .1) (h .0) (h .1);
         some = (1, has-all 1 .1 (omega arith, from));
       }
 
@@ -54,16 +54,16 @@ module _ (rows prior : List ℕ) (n all : ℕ) (from : 1 ≤ n) (to : n ≤ 32) 
   all-lt = let m : 2 ^ n ≤ 2 ^ 32 = pow-mono to in omega (arith, full, pow-pos n)
 
   -- what is written is the form of the order
-  pub text-is : formText 32 false rows all ≡ text (formAny (ahead rows) n)
+  pub text-is : formText goalLimit false rows all ≡ text (formAny (ahead rows) n)
   unfolding formText
   text-is =
       let f = form-any (ahead rows) n strict (not-found (ahead rows) n free) from in
       ap text
-      (form-eq (ahead rows) (formOf 32 rows all) (formAny (ahead rows) n) (form-of rows prior 32 all all-lt ordered) (house-form (ahead rows) n (formAny (ahead rows) n) f)
+      (form-eq (ahead rows) (formOf goalLimit rows all) (formAny (ahead rows) n) (form-of rows prior goalLimit all all-lt ordered) (house-form (ahead rows) n (formAny (ahead rows) n) f)
       has-all)
 
-  pub text-short : length (text (formAny (ahead rows) n)) ≤ 146
+  pub text-short : length (text (formAny (ahead rows) n)) ≤ formLimit
   text-short = text-fits n (formAny (ahead rows) n) (form-any (ahead rows) n strict (not-found (ahead rows) n free) from .uses) to
 
-  pub room : 0 + length (formText 32 false rows all) < 2 ^ 63
+  pub room : 0 + length (formText goalLimit false rows all) < 2 ^ 63
   room = omega (arith, ap length text-is, text-short)

@@ -17,8 +17,7 @@ use lib.Dec.{eqb}
 use lib.ListN.{length, drop, replicate, length-replicate}
 use borrow.Author.Tests.{eqb-true}
 use Rattle.logic.proofs.Bools.{iff, is-false, or-elim, cond-le}
-use Rattle.buffer.specs.Lent.{fits, stored}
-use Rattle.buffer.proofs.Lent.{fits-le}
+use Rattle.buffer.specs.Lent.{fits}
 use Rattle.record_fields.specs.Fields.{goalCount}
 use Rattle.record.specs.WellFormed.{WellFormed}
 use Rattle.record.proofs.WellFormed.{well-formed-fine, fine-well-formed}
@@ -29,7 +28,7 @@ use Rattle.expression.specs.Expr.{Expr, UsesOnce, HouseForm, N, times, stands, 
 use Rattle.expression.specs.Induced as I
 use Rattle.expression.specs.Search.{Four, IsN, firstN}
 use Rattle.expression.specs.Form.{form}
-use Rattle.expression.specs.Text.{text}
+use Rattle.expression.specs.Text.{formLimit, text}
 use Rattle.expression.proofs.Search.{found-first, not-found}
 use Rattle.expression.proofs.Spec.{stands-in, in-times}
 use Rattle.expression.proofs.Theorems as E′
@@ -41,7 +40,7 @@ use Rattle.record_rules.specs.Outcome.{Outcome, refused, accepted, onlyIf, size
 use Rattle.record_rules.proofs.Outcomes.{told-apart, one-value, size-fits, size-short, buffer-short, same-answer, same-buffer}
 use Rattle.form.specs.Form.{orThirteen, formText, formAnswer, Estimated}
 use Rattle.form.specs.Demand.{Expresses, FourGoals, OneOf, ExpressesFour, NoForm, HasForm, Demand}
-use Rattle.form.proofs.Outcomes.{thirteen-none, thirteen-some, form-refused, form-fine, shown-fine, estimated}
+use Rattle.form.proofs.Outcomes.{thirteen-none, thirteen-some, form-refused, form-fine, shown-fine, Held, stored-fit, estimated}
 
 -- 13 is answered for an N alone: else a text is written, or 12 answered
 only-thirteen : (o : Option Four) (t buf : List ℕ) → sizeIn (orThirteen o t) buf ≡ refused 13 0 → (q : Four) × (o ≡ some q)
@@ -51,10 +50,6 @@ only-thirteen none t buf e = absurd (by-room (fits t buf) e)
     by-room true e = let z : _≡_ {A = ℕ} 0 1 = cc in omega arith
     by-room false e = let z : _≡_ {A = ℕ} 12 13 = cc in omega arith
 only-thirteen (some q) t buf e = (q, refl)
-
-stored-fit : (t buf : List ℕ) → length t ≤ length buf → stored t buf ≡ t ++ drop (length t) buf
-unfolding stored
-stored-fit t buf h = ap (λ (x : Bool). cond x (t ++ drop (length t) buf) buf) (fits-le t buf h)
 
 module _ (b : List ℕ) where
   abbrev R : ℕ → ℕ → Bool
@@ -222,21 +217,23 @@ module _ (b : List ℕ) where
         go buf h (some q) e = absurd (h (found-thirteen buf q e))
 
   -- no form is longer than 146 bytes
-  pub form-short : (t : List ℕ) → formText b ≡ accepted t → length t ≤ 146
+  pub form-short : (t : List ℕ) → formText b ≡ accepted t → length t ≤ formLimit
   form-short t e = by-reading-of (reading b) refl
     where
-      searched : WellFormed b → (o : Option Four) → firstN R n ≡ o → length t ≤ 146
+      searched : WellFormed b → (o : Option Four) → firstN R n ≡ o → length t ≤ formLimit
       searched w none h =
           let x : text (form R n) ≡ t = one-value (sym (settles w ∙ thirteen-none (text (form R n)) h) ∙ e) in
-          subst (λ (l : List ℕ). length l ≤ 146) x (has-form w h .short)
+          subst (λ (l : List ℕ). length l ≤ formLimit) x (has-form w h .short)
       searched w (some q) h = absurd (told-apart (sym (settles w ∙ thirteen-some (text (form R n)) q h) ∙ e))
 
-      by-reading-of : (s : Reading) → reading b ≡ s → length t ≤ 146
+      by-reading-of : (s : Reading) → reading b ≡ s → length t ≤ formLimit
       by-reading-of Fine q = searched (fine-well-formed b q) (firstN R n) refl
       by-reading-of (Refused r) q = absurd (told-apart (sym (form-refused b r q) ∙ e))
 
-  -- what writing into 146 bytes answers is an estimate of the length
-  pub estimate : {o : Outcome ℕ} → o ≡ formAnswer b (replicate 146 0) → Estimated (formText b) o
-  estimate e =
-      let n = length-replicate {A = ℕ} 146 0 in
-      estimated (formText b) (replicate 146 0) e (omega arith) (λ t h. omega (arith, form-short t h))
+  -- an array of that length holds it
+  pub form-held : Held (formText b) (replicate formLimit 0)
+  form-held t e = omega (arith, form-short t e, length-replicate {A = ℕ} formLimit 0)
+
+  -- what writing into the array answers is an estimate of the length
+  pub estimate : {o : Outcome ℕ} → o ≡ formAnswer b (replicate formLimit 0) → Estimated (formText b) o
+  estimate e = estimated (formText b) (replicate formLimit 0) form-held e (omega (arith, length-replicate {A = ℕ} formLimit 0))

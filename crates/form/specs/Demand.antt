@@ -10,9 +10,9 @@ use Rattle.order.specs.Order as O
 use Rattle.expression.specs.Expr.{Expr, UsesOnce, UsesFour, Goals, House}
 use Rattle.expression.specs.Induced as I
 use Rattle.expression.specs.Search.{Four, NotAfter}
-use Rattle.expression.specs.Text.{text}
+use Rattle.expression.specs.Text.{formLimit, text}
 use Rattle.record_rules.specs.Outcome.{refused, accepted}
-use Rattle.form.specs.Form.{formLimit, shown, formAnswer, formBuffer}
+use Rattle.form.specs.Form.{shown, formAnswer, formBuffer}
 
 -- 01: "It has the record's order if, for all goals i and j, it induces i before j exactly when the record has i before j."
 abbrev pub HasOrder : List ℕ → Expr → Type 0

@@ -14,10 +14,6 @@ use Rattle.form_first_n.specs.FirstN.{four}
 use Rattle.form.specs.declared.FormAnswer.{FormAnswer}
 use Rattle.form.specs.declared.FormAnswer.the-variants as W
 
--- the length of the longest form of 32 goals (T4)
-abbrev pub formLimit : ℕ
-formLimit = 146
-
 -- 01: "13 no expression induces the order" (0): the first N decides; else the text
 abbrev pub orThirteen : Option Four → List ℕ → Outcome (List ℕ)
 orThirteen none t = accepted t

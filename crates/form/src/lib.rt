@@ -7,7 +7,9 @@ use record_rules::Refusal;
 ghost use mathlib.Core.Path.{_≡_};
 ghost use mathlib.Core.Option.{none};
 ghost use Prim.Native.Nat.{_≤_};
+ghost use lib.ListN.{length};
 ghost use denote.Ref.{now};
+ghost use Rattle.sets.specs.Sets.{goalLimit};
 ghost use Rattle.record_rules.specs.Outcome.{accepted, sizeIn, bufferAfter};
 ghost use Rattle.graph.specs.Graph.{ahead, Within};
 ghost use Rattle.expression.specs.Expr.{Goals};
@@ -44,16 +46,16 @@ fn copy(text: &[u8], out: &mut [u8]) -> FormAnswer
     FormAnswer::Done(end)
 }
 
-// Writes the form of the goals 1 to n in the order that the rows say, any strict order; or refuses with 13, or with 12.
-fn write_rows(rows: &[u32; Graph::MAX], n: usize, out: &mut [u8]) -> FormAnswer
-    requires { ⌜ (1 ≤ n) × (n ≤ 32) × Strict (ahead (now rows)) (Goals n) × Within 32 n (now rows) ⌝ }
+// Writes the form of the goals 1 to n in the order that the rows say, any strict order, at the start of a buffer that holds every form; or refuses with 13.
+fn put_rows(rows: &[u32; Graph::MAX], n: usize, space: &mut [u8]) -> FormAnswer
+    requires { ⌜ (1 ≤ n) × (n ≤ goalLimit) × Strict (ahead (now rows)) (Goals n) × Within goalLimit n (now rows) × (T.formLimit ≤ length (now space)) ⌝ }
     ensures { λ r.
         ⌜ F.outcome r
-        ≡ sizeIn (F.orThirteen (firstN (ahead (now (rows .entry))) n) (T.text (formAny (ahead (now (rows .entry))) n))) (now (out .entry)) ⌝ }
+        ≡ sizeIn (F.orThirteen (firstN (ahead (now (rows .entry))) n) (T.text (formAny (ahead (now (rows .entry))) n))) (now (space .entry)) ⌝ }
     ensures { λ r. ⌜ F.goals r ≡ firstN (ahead (now (rows .entry))) n ⌝ }
     ensures { λ _.
-        ⌜ now (out .exit)
-        ≡ bufferAfter (F.orThirteen (firstN (ahead (now (rows .entry))) n) (T.text (formAny (ahead (now (rows .entry))) n))) (now (out .entry)) ⌝ }
+        ⌜ now (space .exit)
+        ≡ bufferAfter (F.orThirteen (firstN (ahead (now (rows .entry))) n) (T.text (formAny (ahead (now (rows .entry))) n))) (now (space .entry)) ⌝ }
 {
     let prior = graph::transposed(rows, n);
     let found = form_first_n::first_n(rows, &prior, n);
@@ -61,18 +63,18 @@ fn write_rows(rows: &[u32; Graph::MAX], n: usize, out: &mut [u8]) -> FormAnswer
         FirstN::At(q) => FormAnswer::NoForm(q),
         FirstN::Nothing => {
             let all = sets::below32(n);
-            let mut space = [0u8; LONGEST];
-            let size = form_split::put_form(&mut space, 0, rows, &prior, all, false);
-            copy(&space[..size], out)
+            let size = form_split::put_form(space, 0, rows, &prior, all, false);
+            FormAnswer::Done(size)
         }
     }
 }
 
-// Writes the form of a record into a lent buffer. 01: "the closure is taken first".
-pub fn write(b: &[u8], out: &mut [u8]) -> FormAnswer
-    ensures { λ r. ⌜ F.outcome r ≡ F.formAnswer (now (b .entry)) (now (out .entry)) ⌝ }
+// Writes the form of a record at the start of a buffer that holds every form. 01: "the closure is taken first".
+fn put(b: &[u8], space: &mut [u8]) -> FormAnswer
+    requires { ⌜ T.formLimit ≤ length (now space) ⌝ }
+    ensures { λ r. ⌜ F.outcome r ≡ F.formAnswer (now (b .entry)) (now (space .entry)) ⌝ }
     ensures { λ r. ⌜ F.goals r ≡ F.shown (now (b .entry)) ⌝ }
-    ensures { λ _. ⌜ now (out .exit) ≡ F.formBuffer (now (b .entry)) (now (out .entry)) ⌝ }
+    ensures { λ _. ⌜ now (space .exit) ≡ F.formBuffer (now (b .entry)) (now (space .entry)) ⌝ }
 {
     let s = record::read(b);
     match s {
@@ -80,8 +82,22 @@ pub fn write(b: &[u8], out: &mut [u8]) -> FormAnswer
         Reading::Fine => {
             let c = clause::decode(b);
             let g = order::order_of(c.n, &c.sets, &c.grounds, &c.listed);
-            write_rows(&g.rows, g.n, out)
+            put_rows(&g.rows, g.n, space)
         }
+    }
+}
+
+// Writes the form of a record into a lent buffer.
+pub fn write(b: &[u8], out: &mut [u8]) -> FormAnswer
+    ensures { λ r. ⌜ F.outcome r ≡ F.formAnswer (now (b .entry)) (now (out .entry)) ⌝ }
+    ensures { λ r. ⌜ F.goals r ≡ F.shown (now (b .entry)) ⌝ }
+    ensures { λ _. ⌜ now (out .exit) ≡ F.formBuffer (now (b .entry)) (now (out .entry)) ⌝ }
+{
+    let mut space = [0u8; LONGEST];
+    match put(b, &mut space) {
+        FormAnswer::Done(size) => copy(&space[..size], out),
+        FormAnswer::NoForm(q) => FormAnswer::NoForm(q),
+        FormAnswer::Refused(r) => FormAnswer::Refused(r),
     }
 }
 
@@ -90,6 +106,6 @@ pub fn length(b: &[u8]) -> FormAnswer
     ensures { λ r. ⌜ F.Estimated (F.formText (now (b .entry))) (F.outcome r) ⌝ }
     ensures { λ r. ⌜ F.goals r ≡ F.shown (now (b .entry)) ⌝ }
 {
-    let mut room = [0u8; LONGEST];
-    write(b, &mut room)
+    let mut space = [0u8; LONGEST];
+    put(b, &mut space)
 }

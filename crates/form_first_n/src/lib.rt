@@ -3,6 +3,7 @@ use graph::Graph;
 ghost use mathlib.Core.Path.{_≡_};
 ghost use Prim.Native.Nat.{_<_, _≤_};
 ghost use denote.Ref.{now};
+ghost use Rattle.sets.specs.Sets.{goalLimit};
 ghost use Rattle.graph.specs.Graph.{ahead, transposed, Within};
 ghost use Rattle.expression.specs.Expr.{Goals};
 ghost use Rattle.expression.specs.Arrange.{Strict};
@@ -25,7 +26,7 @@ pub enum FirstN {
 
 // The goals that are in order with goal i + 1, either way.
 fn related(rows: &[u32; Graph::MAX], prior: &[u32; Graph::MAX], i: usize) -> u32
-    requires { ⌜ i < 32 ⌝ }
+    requires { ⌜ i < goalLimit ⌝ }
     ensures { λ r. ⌜ r ≡ C.related (now (rows .entry)) (now (prior .entry)) i ⌝ }
 {
     let after = rows[i];
@@ -35,7 +36,7 @@ fn related(rows: &[u32; Graph::MAX], prior: &[u32; Graph::MAX], i: usize) -> u32
 
 // The goals that are before some goal: what can be a or b.
 fn leading(prior: &[u32; Graph::MAX], n: usize) -> u32
-    requires { ⌜ n ≤ 32 ⌝ }
+    requires { ⌜ n ≤ goalLimit ⌝ }
     ensures { λ r. ⌜ r ≡ C.leading (now (prior .entry)) n ⌝ }
 {
     let mut set = 0u32;
@@ -48,7 +49,7 @@ fn leading(prior: &[u32; Graph::MAX], n: usize) -> u32
 
 // The goals that can be b for a: of the leading ones those that are not a and not in order with a.
 fn seconds(rows: &[u32; Graph::MAX], prior: &[u32; Graph::MAX], lead: u32, a: usize) -> u32
-    requires { ⌜ a < 32 ⌝ }
+    requires { ⌜ a < goalLimit ⌝ }
     ensures { λ r. ⌜ r ≡ C.seconds (now (rows .entry)) (now (prior .entry)) lead a ⌝ }
 {
     let near_a = related(rows, prior, a);
@@ -59,7 +60,7 @@ fn seconds(rows: &[u32; Graph::MAX], prior: &[u32; Graph::MAX], lead: u32, a: us
 
 // The goals that can be d for a, b and some c: after b, and not in order with a.
 fn fourths(rows: &[u32; Graph::MAX], prior: &[u32; Graph::MAX], a: usize, b: usize) -> u32
-    requires { ⌜ (a < 32) × (b < 32) ⌝ }
+    requires { ⌜ (a < goalLimit) × (b < goalLimit) ⌝ }
     ensures { λ r. ⌜ r ≡ C.fourths (now (rows .entry)) (now (prior .entry)) a b ⌝ }
 {
     let near_a = related(rows, prior, a);
@@ -68,7 +69,7 @@ fn fourths(rows: &[u32; Graph::MAX], prior: &[u32; Graph::MAX], a: usize, b: usi
 
 // The goals that can be c for a and b: after both. None if no goal can be d.
 fn thirds(rows: &[u32; Graph::MAX], prior: &[u32; Graph::MAX], a: usize, b: usize) -> u32
-    requires { ⌜ (a < 32) × (b < 32) ⌝ }
+    requires { ⌜ (a < goalLimit) × (b < goalLimit) ⌝ }
     ensures { λ r. ⌜ r ≡ C.thirds (now (rows .entry)) (now (prior .entry)) a b ⌝ }
 {
     if fourths(rows, prior, a, b) == 0 {
@@ -79,7 +80,7 @@ fn thirds(rows: &[u32; Graph::MAX], prior: &[u32; Graph::MAX], a: usize, b: usiz
 
 // The goals that are d for a, b and c: those of the candidates that are not in order with c.
 fn lasts(rows: &[u32; Graph::MAX], prior: &[u32; Graph::MAX], a: usize, b: usize, c: usize) -> u32
-    requires { ⌜ (a < 32) × (b < 32) × (c < 32) ⌝ }
+    requires { ⌜ (a < goalLimit) × (b < goalLimit) × (c < goalLimit) ⌝ }
     ensures { λ r. ⌜ r ≡ C.lasts (now (rows .entry)) (now (prior .entry)) a b c ⌝ }
 {
     let ds = fourths(rows, prior, a, b);
@@ -90,7 +91,7 @@ fn lasts(rows: &[u32; Graph::MAX], prior: &[u32; Graph::MAX], a: usize, b: usize
 // The first N among the goals 1 to n of a strict order; `prior` is `rows` with every edge turned round. Four loops over the goals that can be a, b, c and d, left
 // as soon as it is met.
 pub fn first_n(rows: &[u32; Graph::MAX], prior: &[u32; Graph::MAX], n: usize) -> FirstN
-    requires { ⌜ (n ≤ 32) × (now prior ≡ transposed 32 n (now rows)) × Strict (ahead (now rows)) (Goals n) × Within 32 n (now rows) ⌝ }
+    requires { ⌜ (n ≤ goalLimit) × (now prior ≡ transposed goalLimit n (now rows)) × Strict (ahead (now rows)) (Goals n) × Within goalLimit n (now rows) ⌝ }
     ensures { λ r. ⌜ F.found r ≡ firstN (ahead (now (rows .entry))) n ⌝ }
 {
     let mut answer = FirstN::Nothing;

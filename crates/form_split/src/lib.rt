@@ -4,6 +4,7 @@ ghost use mathlib.Core.Path.{_≡_};
 ghost use Prim.Native.Nat.{suc, _+_, _^_, _<_};
 ghost use lib.ListN.{length};
 ghost use denote.Ref.{now};
+ghost use Rattle.sets.specs.Sets.{goalLimit};
 ghost use Rattle.graph.specs.Graph.{ahead, behind};
 ghost use Rattle.buffer.specs.Text.{Wrote};
 ghost use Rattle.expression.specs.Arrange.{Strict};
@@ -20,7 +21,7 @@ fn hanging(
     left: u32,
     i: usize,
 ) -> u32
-    requires { ⌜ i < 32 ⌝ }
+    requires { ⌜ i < goalLimit ⌝ }
     ensures { λ r. ⌜ r ≡ Hang.hanging (now (after .entry)) (now (prior .entry)) k left i ⌝ }
 {
     let later = after[i];
@@ -41,7 +42,7 @@ fn hanging_any(
     left: u32,
     set: u32,
 ) -> u32
-    ensures { λ r. ⌜ r ≡ Hang.hangingAny 32 (now (after .entry)) (now (prior .entry)) k left set ⌝ }
+    ensures { λ r. ⌜ r ≡ Hang.hangingAny goalLimit (now (after .entry)) (now (prior .entry)) k left set ⌝ }
 {
     let mut all = 0u32;
     let mut todo = set;
@@ -68,7 +69,7 @@ fn component(
     set: u32,
     x: usize,
 ) -> u32
-    requires { ⌜ (x < 32) × Has set (suc x) × Turned (now after) (now prior) set ⌝ }
+    requires { ⌜ (x < goalLimit) × Has set (suc x) × Turned (now after) (now prior) set ⌝ }
     ensures { λ r. ⌜ Component (ahead (now (after .entry))) k (Has set) (suc x) (Has r) ⌝ }
 {
     let start = Graph::single(x + 1);
@@ -89,7 +90,7 @@ fn component(
 
 // Those of `rest` that are before goal x + 1, if that matters.
 fn earlier(prior: &[u32; Graph::MAX], k: bool, rest: u32, x: usize) -> u32
-    requires { ⌜ x < 32 ⌝ }
+    requires { ⌜ x < goalLimit ⌝ }
     ensures { λ r. ⌜ r ≡ Hang.earlier (now (prior .entry)) k rest x ⌝ }
 {
     let before = prior[x];
@@ -99,7 +100,7 @@ fn earlier(prior: &[u32; Graph::MAX], k: bool, rest: u32, x: usize) -> u32
 // A goal, less one, of the first member: of a group the lowest goal, of a sequence one that no goal comes before.
 fn start(prior: &[u32; Graph::MAX], k: bool, rest: u32) -> usize
     requires { ⌜ Strict (behind (now prior)) (Has rest) × ((g : _) × Has rest g) ⌝ }
-    ensures { λ r. ⌜ (r < 32) × Has rest (suc r) × Starts (behind (now (prior .entry))) k (Has rest) (suc r) ⌝ }
+    ensures { λ r. ⌜ (r < goalLimit) × Has rest (suc r) × Starts (behind (now (prior .entry))) k (Has rest) (suc r) ⌝ }
 {
     let mut x = sets::first32(rest);
     let mut before = earlier(prior, k, rest, x);
@@ -119,7 +120,7 @@ struct FirstMember {
 // The first member of what is left.
 fn member(after: &[u32; Graph::MAX], prior: &[u32; Graph::MAX], k: bool, rest: u32) -> FirstMember
     requires { ⌜ Strict (behind (now prior)) (Has rest) × Turned (now after) (now prior) rest × ((g : _) × Has rest g) ⌝ }
-    ensures { λ r. ⌜ (r .start < 32) × Has rest (suc (r .start)) ⌝ }
+    ensures { λ r. ⌜ (r .start < goalLimit) × Has rest (suc (r .start)) ⌝ }
     ensures { λ r. ⌜ Starts (behind (now (prior .entry))) k (Has rest) (suc (r .start)) ⌝ }
     ensures { λ r. ⌜ Component (ahead (now (after .entry))) k (Has rest) (suc (r .start)) (Has (r .goals)) ⌝ }
 {
@@ -144,8 +145,8 @@ pub fn put_form(
     set: u32,
     nested: bool,
 ) -> usize
-    requires { ⌜ Ordered (now after) (now prior) set × (at + length (formText 32 nested (now after) set) < 2 ^ 63) ⌝ }
-    ensures { λ r. ⌜ Wrote (formText 32 nested (now (after .entry)) set) at (now (out .entry)) r (now (out .exit)) ⌝ }
+    requires { ⌜ Ordered (now after) (now prior) set × (at + length (formText goalLimit nested (now after) set) < 2 ^ 63) ⌝ }
+    ensures { λ r. ⌜ Wrote (formText goalLimit nested (now (after .entry)) set) at (now (out .entry)) r (now (out .exit)) ⌝ }
 {
     let x = sets::first32(set);
     if Graph::single(x + 1) == set {

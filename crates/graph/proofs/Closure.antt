@@ -6,6 +6,7 @@ use mathlib.Core.Logic.{_⊎_, inl, inr, ⊎-elim}
 use Prim.Native.Nat.{ℕ, zero, suc, _≤_, _<_}
 use native.Mathlib.Nat.{eq-or-lt-of-le}
 use native.Mathlib.Omega.{arith}
+use Rattle.sets.specs.Sets.{goalLimit}
 use Rattle.logic.proofs.Bools.{and-true, or-true as or-cases}
 use Rattle.graph.specs.Graph.{ahead, rowsOf, graphOf}
 use Rattle.graph.specs.Closure.{Chain, wait, link, closed, closing}
@@ -79,10 +80,10 @@ closed-agree W W′ n a (suc m) h i j p q =
     ap₂ _||_ (c i j p q) (ap₂ _&&_ (c i (suc m) p s) (c (suc m) j s q))
 
 -- The closure of the graph of a relation is the graph of its chains.
-pub closing-of : (n : ℕ) (W : ℕ → ℕ → Bool) → n ≤ 32 → closing (graphOf n W) ≡ graphOf n (closed W n)
+pub closing-of : (n : ℕ) (W : ℕ → ℕ → Bool) → n ≤ goalLimit → closing (graphOf n W) ≡ graphOf n (closed W n)
 unfolding closing
 closing-of n W h =
     ap (λ (l : List ℕ). record { n = n; rows = l })
-    (rows-cong 32 n (closed (ahead (rowsOf 32 n W)) n) (closed W n) h
+    (rows-cong goalLimit n (closed (ahead (rowsOf goalLimit n W)) n) (closed W n) h
     (λ i j a b c d.
-    closed-agree (ahead (rowsOf 32 n W)) W n (λ x y p q. rows-say 32 n W x y h (p .0) (p .1) (q .0) (q .1)) n (omega arith) i j (a, b) (c, d)))
+    closed-agree (ahead (rowsOf goalLimit n W)) W n (λ x y p q. rows-say goalLimit n W x y h (p .0) (p .1) (q .0) (q .1)) n (omega arith) i j (a, b) (c, d)))

@@ -2,6 +2,7 @@
 use mathlib.Core.Path.{_≡_}
 use mathlib.Core.Bool.{Bool, true, _&&_, _||_}
 use Prim.Native.Nat.{ℕ, zero, suc, _≤_}
+use Rattle.sets.specs.Sets.{goalLimit}
 use Rattle.graph.specs.Graph.{ahead, graphOf, Within}
 use Rattle.graph.specs.declared.Graph.{Graph}
 
@@ -17,7 +18,7 @@ closed W (suc m) i j = closed W m i j || (closed W m i (suc m) && closed W m (su
 
 -- What a graph is: at most the most goals, and rows that have nothing but pairs of its goals.
 abbrev pub IsGraph : Graph → Type 0
-IsGraph g = (g .n ≤ 32) × Within 32 (g .n) (g .rows)
+IsGraph g = (g .n ≤ goalLimit) × Within goalLimit (g .n) (g .rows)
 
 -- The closure of a graph: the graph of its chains.
 unfoldable pub closing : Graph → Graph

@@ -19,7 +19,7 @@ pub struct Graph {
 
 impl Graph {
     // The most goals that a clause has.
-    pub const MAX: usize = 32;
+    pub const MAX: usize = sets::GOALS;
 
     // The graph of n goals without an edge.
     pub fn empty(n: usize) -> Graph
@@ -31,7 +31,7 @@ impl Graph {
 
     // The set of goal g alone.
     pub fn single(g: usize) -> u32
-        requires { ⌜ (1 ≤ g) × (g ≤ 32) ⌝ }
+        requires { ⌜ (1 ≤ g) × (g ≤ S.goalLimit) ⌝ }
         ensures { λ r. ⌜ r ≡ S.single (g - 1) ⌝ }
     {
         sets::single32(g - 1)
@@ -39,7 +39,7 @@ impl Graph {
 
     // The goals that goal g is before.
     pub fn row(self, g: usize) -> u32
-        requires { ⌜ (1 ≤ g) × (g ≤ 32) ⌝ }
+        requires { ⌜ (1 ≤ g) × (g ≤ S.goalLimit) ⌝ }
         ensures { λ r. ⌜ r ≡ getD (self .rows) (g - 1) 0 ⌝ }
     {
         let i = g - 1;
@@ -65,7 +65,7 @@ impl Graph {
 
 // The row with the rows of its goals.
 fn joined(rows: &[u32; Graph::MAX], row: u32) -> u32
-    ensures { λ r. ⌜ r ≡ P.gather 32 (now (rows .entry)) row row ⌝ }
+    ensures { λ r. ⌜ r ≡ P.gather S.goalLimit (now (rows .entry)) row row ⌝ }
 {
     let mut all = row;
     let mut left = row;
@@ -80,7 +80,7 @@ fn joined(rows: &[u32; Graph::MAX], row: u32) -> u32
 // The same for a row whose goals are all of `still`: the goals of their rows lead to nothing new, and are passed over.
 fn joined_still(rows: &[u32; Graph::MAX], row: u32, still: u32) -> u32
     requires { ⌜ P.Still (now rows) still × (S.subset row still ≡ true) ⌝ }
-    ensures { λ r. ⌜ r ≡ P.gather 32 (now (rows .entry)) row row ⌝ }
+    ensures { λ r. ⌜ r ≡ P.gather S.goalLimit (now (rows .entry)) row row ⌝ }
 {
     let mut all = row;
     let mut left = row;
@@ -96,7 +96,7 @@ fn joined_still(rows: &[u32; Graph::MAX], row: u32, still: u32) -> u32
 // The same by the shorter way, where there is one.
 fn row_pass(rows: &[u32; Graph::MAX], row: u32, still: u32) -> u32
     requires { ⌜ P.Still (now rows) still ⌝ }
-    ensures { λ r. ⌜ r ≡ P.gather 32 (now (rows .entry)) row row ⌝ }
+    ensures { λ r. ⌜ r ≡ P.gather S.goalLimit (now (rows .entry)) row row ⌝ }
 {
     if sets::subset32(row, still) {
         return joined_still(rows, row, still);
@@ -106,7 +106,7 @@ fn row_pass(rows: &[u32; Graph::MAX], row: u32, still: u32) -> u32
 
 // The set with goal i + 1 in it, if its row is as it was.
 fn kept(still: u32, i: usize, same: bool) -> u32
-    requires { ⌜ i < 32 ⌝ }
+    requires { ⌜ i < S.goalLimit ⌝ }
     ensures { λ r. ⌜ r ≡ cond same (S.union still (S.single i)) still ⌝ }
 {
     if same {
@@ -119,9 +119,9 @@ fn kept(still: u32, i: usize, same: bool) -> u32
 // One pass: what a chain of two waits gives is added, all of it by the rows at its start. From the last goal down: where the waits go up, the rows behind tell
 // what may be passed over. Answers the goals whose rows stay as they were.
 fn pass(rows: &mut [u32; Graph::MAX], n: usize) -> u32
-    requires { ⌜ (n ≤ 32) × G.Within 32 n (now rows) ⌝ }
+    requires { ⌜ (n ≤ S.goalLimit) × G.Within S.goalLimit n (now rows) ⌝ }
     ensures { λ r. ⌜
-        (now (rows .exit) ≡ G.rowsOf 32 n (P.pass n (G.ahead (now (rows .entry)))))
+        (now (rows .exit) ≡ G.rowsOf S.goalLimit n (P.pass n (G.ahead (now (rows .entry)))))
         × (r ≡ P.sameRows n (now (rows .entry)) (now (rows .exit)))
         ⌝ }
 {
@@ -155,7 +155,7 @@ fn far_row(near: u32, far: u32, width: usize, half: u32) -> u32
 
 // Exchanges the rows of a block with those `width` further on.
 fn exchange_block(rows: &mut [u32; Graph::MAX], start: usize, width: usize, half: u32)
-    requires { ⌜ X.Width width × (half ≡ X.half width) × (start % (2 * width) ≡ 0) × (start + 2 * width ≤ 32) × G.Words 32 (now rows) ⌝ }
+    requires { ⌜ X.Width width × (half ≡ X.half width) × (start % (2 * width) ≡ 0) × (start + 2 * width ≤ S.goalLimit) × G.Words S.goalLimit (now rows) ⌝ }
     ensures { λ _. ⌜ X.Block width start (now (rows .entry)) (now (rows .exit)) ⌝ }
 {
     let end = start + width;
@@ -171,7 +171,7 @@ fn exchange_block(rows: &mut [u32; Graph::MAX], start: usize, width: usize, half
 
 // A round of exchanges; where no goal is past the width there is nothing to exchange.
 fn exchange(rows: &mut [u32; Graph::MAX], n: usize, width: usize, half: u32)
-    requires { ⌜ X.Width width × (half ≡ X.half width) × (n ≤ 32) × G.Words 32 (now rows) ⌝ }
+    requires { ⌜ X.Width width × (half ≡ X.half width) × (n ≤ S.goalLimit) × G.Words S.goalLimit (now rows) ⌝ }
     ensures { λ _. ⌜ now (rows .exit) ≡ X.round width n (now (rows .entry)) ⌝ }
 {
     if width < n {
@@ -185,8 +185,8 @@ fn exchange(rows: &mut [u32; Graph::MAX], n: usize, width: usize, half: u32)
 
 // The rows with every edge turned round: row j has the goals that are before goal j + 1.
 pub fn transposed(rows: &[u32; Graph::MAX], n: usize) -> [u32; Graph::MAX]
-    requires { ⌜ (n ≤ 32) × G.Within 32 n (now rows) ⌝ }
-    ensures { λ r. ⌜ r ≡ G.transposed 32 n (now (rows .entry)) ⌝ }
+    requires { ⌜ (n ≤ S.goalLimit) × G.Within S.goalLimit n (now rows) ⌝ }
+    ensures { λ r. ⌜ r ≡ G.transposed S.goalLimit n (now (rows .entry)) ⌝ }
 {
     let mut turned = *rows;
     exchange(&mut turned, n, 16, 0x0000_ffff);
@@ -199,8 +199,8 @@ pub fn transposed(rows: &[u32; Graph::MAX], n: usize) -> [u32; Graph::MAX]
 
 // Each goal of `front` is before each goal of `later`, beside what the rows have. Only the rows of `front` are touched, and none if there is nothing to put.
 pub fn link(rows: &mut [u32; Graph::MAX], front: u32, later: u32)
-    requires { ⌜ G.Words 32 (now rows) ⌝ }
-    ensures { λ _. ⌜ Linked 32 front later (now (rows .entry)) (now (rows .exit)) ⌝ }
+    requires { ⌜ G.Words S.goalLimit (now rows) ⌝ }
+    ensures { λ _. ⌜ Linked S.goalLimit front later (now (rows .entry)) (now (rows .exit)) ⌝ }
 {
     if later == 0 {
         return;

@@ -8,7 +8,7 @@ ghost use Rattle.independence.specs.Halves.{halves, whole};
 
 // The variables listed with each variable of the set. Row x of `listed` has those whose pair with x is listed.
 fn common(set: u64, listed: &[u64; sets::VARIABLES]) -> u64
-    ensures { λ r. ⌜ r ≡ S.common (now (listed .entry)) 64 set ⌝ }
+    ensures { λ r. ⌜ r ≡ S.common (now (listed .entry)) S.variableLimit set ⌝ }
 {
     let mut all = sets::below(sets::VARIABLES as u32);
     let mut rest = set;
@@ -25,7 +25,7 @@ fn common(set: u64, listed: &[u64; sets::VARIABLES]) -> u64
 
 // The variables listed with each variable of the set that is neither ground nor independent of every other.
 fn apart(set: u64, ground: u64, free: u64, listed: &[u64; sets::VARIABLES]) -> u64
-    ensures { λ r. ⌜ r ≡ J.apart ground free (now (listed .entry)) 64 set ⌝ }
+    ensures { λ r. ⌜ r ≡ J.apart ground free (now (listed .entry)) S.variableLimit set ⌝ }
 {
     let loose = sets::union(ground, free);
     common(sets::without(set, loose), listed)
@@ -34,7 +34,7 @@ fn apart(set: u64, ground: u64, free: u64, listed: &[u64; sets::VARIABLES]) -> u
 // The variables each of which makes a later goal wait for the goal of this variable set: made once for all later goals. `ground` has the variables known ground
 // at this goal, `free` those known independent of every other.
 pub fn ties(set: u64, ground: u64, free: u64, listed: &[u64; sets::VARIABLES]) -> u64
-    ensures { λ r. ⌜ r ≡ T.tiesOf ground free (now (listed .entry)) 64 set ⌝ }
+    ensures { λ r. ⌜ r ≡ T.tiesOf ground free (now (listed .entry)) S.variableLimit set ⌝ }
 {
     let apart = apart(set, ground, free, listed);
     let clear = sets::union(ground, sets::without(sets::union(free, apart), set));

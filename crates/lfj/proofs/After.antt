@@ -6,6 +6,7 @@ use Prim.Native.Nat.{ℕ, suc, _-_}
 use native.Mathlib.Omega.{arith}
 use lib.Dec.{leb}
 use lib.ListN.{getD}
+use Rattle.sets.specs.Sets.{goalLimit}
 use Rattle.graph.specs.Graph.{edgeless, goalsOf, rowsOf}
 use Rattle.graph.specs.declared.Graph.{Graph}
 use Rattle.graph.proofs.Rows.{row-at}
@@ -55,9 +56,9 @@ module _ (b : List ℕ) where
       let high = between-high 1 (goalCount b) g t in
       let most = fine-well-formed b f .goals-to in
       let order : orderGraph b ≡ Order.order b = sym (ap (λ (o : Outcome Graph). values (edgeless 0) o .value) (read-fine b _ refl f)) in
-      let rows : x .rows ≡ rowsOf 32 (goalCount b) (before b) = ap (λ (y : Graph). y .rows) (e ∙ order) in
+      let rows : x .rows ≡ rowsOf goalLimit (goalCount b) (before b) = ap (λ (y : Graph). y .rows) (e ∙ order) in
       let i : suc (g - 1) ≡ g = omega (arith, low) in
       let row : w ≡ goalsOf (goalCount b) (before b g) =
-      h ∙ ap (λ (l : List ℕ). getD l (g - 1) 0) rows ∙ row-at 32 (goalCount b) (before b) (g - 1) (omega (arith, low, high, most)) (omega (arith, low, high))
+      h ∙ ap (λ (l : List ℕ). getD l (g - 1) 0) rows ∙ row-at goalLimit (goalCount b) (before b) (g - 1) (omega (arith, low, high, most)) (omega (arith, low, high))
       ∙ ap (λ (k : ℕ). goalsOf (goalCount b) (before b k)) i in
       row ∙ ap (λ (y : Outcome ℕ). word (λ m. m) y) (holds 14 0 _ t ∙ read-fine b _ refl f)

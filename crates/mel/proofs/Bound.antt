@@ -12,7 +12,7 @@ use lib.Dec.{ltb}
 use lib.Pow.{pow-pos}
 use lib.ListN.{length, getD, length-append, length-map}
 use Rattle.logic.proofs.Bools.{and-l}
-use Rattle.sets.specs.Sets.{has, meet, union, without, below, count, membersFrom, members}
+use Rattle.sets.specs.Sets.{goalLimit, variableLimit, has, meet, union, without, below, count, membersFrom, members}
 use Rattle.sets.proofs.Membership.{has-meet, has-without}
 use Rattle.sets.proofs.Builder.{union-lt}
 use Rattle.sets.proofs.Members.{count-members, no-more}
@@ -65,10 +65,10 @@ partners-in sets p q k row x y e =
     left-of k row y (left-of (without k row) (goalWith sets p q x) y (left-of (without (without k row) (goalWith sets p q x)) (below (x + 1)) y e))
 
 -- the numbers of the bound fit a machine's number
-pub square : (v : ℕ) → v ≤ 64 → v * v ≤ 64 * v
+pub square : (v : ℕ) → v ≤ variableLimit → v * v ≤ variableLimit * v
 square v h = mul-le-mul-right v h
 
-pub product : (n c : ℕ) → n ≤ 32 → n * c ≤ 32 * c
+pub product : (n c : ℕ) → n ≤ goalLimit → n * c ≤ goalLimit * c
 product n c h = mul-le-mul-right c h
 
 module _ (w head : ℕ) (sets grounds listed : List ℕ) (n : ℕ) where
@@ -167,9 +167,9 @@ module _ (w head : ℕ) (sets grounds listed : List ℕ) (n : ℕ) where
         (λ d. omega (arith, f, ih (omega (arith, f, h)), simp length-append at (ap length (stages-more w head sets grounds listed q l d)), stage-most p q h, suc-mul p c, mul-le-mul-right c f)))
 
   -- a place in the text fits a machine's number
-  pub text-fits : w ≤ 64 → n ≤ 32 → length (stagesText w head sets grounds listed n) < 2 ^ 63
+  pub text-fits : w ≤ variableLimit → n ≤ goalLimit → length (stagesText w head sets grounds listed n) < 2 ^ 63
   text-fits e h =
-      let l : v ≤ 64 = omega (arith, e, members-width w 0 vars) in
+      let l : v ≤ variableLimit = omega (arith, e, members-width w 0 vars) in
       omega (arith, l, stages-most (omega arith) (omega arith) n (omega arith), square v l, product n (15 * (v + v * v)) h)
 
 -- the whole text, with the variables counted by the code
@@ -181,5 +181,5 @@ whole-most w head sets grounds listed m h e u l =
 
 -- with 64 variables
 pub text-most : (head : ℕ) (sets grounds listed : List ℕ) (m : ℕ) → m < 2 ^ 64 → m ≡ once sets 0 (length sets) → length sets < 100
-    → length (melText 64 head sets grounds listed) ≤ length sets * (15 * (count m + count m * count m)) + 8 * length sets
-text-most head sets grounds listed m h e l = whole-most 64 head sets grounds listed m h e (omega arith) l
+    → length (melText variableLimit head sets grounds listed) ≤ length sets * (15 * (count m + count m * count m)) + 8 * length sets
+text-most head sets grounds listed m h e l = whole-most variableLimit head sets grounds listed m h e (omega arith) l

@@ -10,7 +10,7 @@ use lib.ListN.{length, take, getD, length-map}
 use borrow.Author.Tests.{lt-ltb}
 use Rattle.logic.specs.Table.{tableFrom}
 use Rattle.logic.proofs.Table.{table-at, table-length}
-use Rattle.sets.specs.Sets.{has, setOf}
+use Rattle.sets.specs.Sets.{goalLimit, variableLimit, has, setOf}
 use Rattle.sets.proofs.Membership.{has-empty}
 use Rattle.sets.proofs.Builder.{has-setOf-in}
 use Rattle.independence.specs.Independence.{knownIndependent}
@@ -50,24 +50,24 @@ module _ (b : List ℕ) where
   sets-length = length-map (goalsFrom (goalCount b) 0) (goalSet b) ∙ goals-count (goalCount b) 0
 
   -- the sets of the goals, as the code takes them
-  front-sets : goalCount b ≤ 32 → take (goalCount b) (goalSets 32 b) ≡ inOrder
+  front-sets : goalCount b ≤ goalLimit → take (goalCount b) (goalSets goalLimit b) ≡ inOrder
   unfolding goalSets
   front-sets h =
       let e : goalCount b ≡ 0 + goalCount b = omega arith in
-      ap (λ (k : ℕ). take (goalCount b) (tableFrom 32 0 k (λ i. goalSet b (suc i)))) e ∙ front (goalSet b) 32 (goalCount b) 0 h
+      ap (λ (k : ℕ). take (goalCount b) (tableFrom goalLimit 0 k (λ i. goalSet b (suc i)))) e ∙ front (goalSet b) goalLimit (goalCount b) 0 h
 
-  module _ (h : goalCount b ≤ 32) where
-    ground-at : (n : ℕ) → 0 < n → n ≤ goalCount b → goal (groundSets 32 b) n ≡ groundAt b n
+  module _ (h : goalCount b ≤ goalLimit) where
+    ground-at : (n : ℕ) → 0 < n → n ≤ goalCount b → goal (groundSets goalLimit b) n ≡ groundAt b n
     unfolding goal groundSets
     ground-at n z u =
         let i : suc (n - 1) ≡ n = omega (arith, z) in
-        table-at 32 (goalCount b) (λ k. groundAt b (suc k)) (n - 1) (omega (arith, h, z, u)) (omega (arith, z, u)) ∙ ap (groundAt b) i
+        table-at goalLimit (goalCount b) (λ k. groundAt b (suc k)) (n - 1) (omega (arith, h, z, u)) (omega (arith, z, u)) ∙ ap (groundAt b) i
 
-    row-at : (x y : ℕ) → x < 64 → y < 64 → has (getD (pairRows 64 b) x 0) y ≡ listed b x y
+    row-at : (x y : ℕ) → x < variableLimit → y < variableLimit → has (getD (pairRows variableLimit b) x 0) y ≡ listed b x y
     unfolding pairRows
     row-at x y lx ly =
-        ap (λ (m : ℕ). has m y) (table-at 64 64 (λ x. setOf 64 (listed b x)) x lx lx)
-        ∙ has-setOf-in 64 (listed b x) y ly
+        ap (λ (m : ℕ). has m y) (table-at variableLimit variableLimit (λ x. setOf variableLimit (listed b x)) x lx lx)
+        ∙ has-setOf-in variableLimit (listed b x) y ly
 
     known-is : (t : Bool) (g x y : ℕ) → t ≡ listed b x y → t || has g x || has g y ≡ knownIndependent g 0 (listed b) x y
     unfolding knownIndependent
@@ -76,30 +76,30 @@ module _ (b : List ℕ) where
         ∙ or-assoc (listed b x y) (has g x) (has g y)
         ∙ sym (ap₂ (λ (u v : Bool). listed b x y || (has g x || has g y) || (u || v)) (has-empty x) (has-empty y) ∙ or-false (listed b x y || (has g x || has g y)))
 
-    one-text : melText 64 (headSet b) inOrder (groundSets 32 b) (pairRows 64 b) ≡ mel b
+    one-text : melText variableLimit (headSet b) inOrder (groundSets goalLimit b) (pairRows variableLimit b) ≡ mel b
     unfolding melText given mel factsOf
     one-text =
-        mel-same 64 (headSet b) inOrder
-        (λ g. goal (groundSets 32 b) g) (λ g. groundAt b g)
-        (λ g x y. has (getD (pairRows 64 b) x 0) y || has (goal (groundSets 32 b) g) x || has (goal (groundSets 32 b) g) y)
+        mel-same variableLimit (headSet b) inOrder
+        (λ g. goal (groundSets goalLimit b) g) (λ g. groundAt b g)
+        (λ g x y. has (getD (pairRows variableLimit b) x 0) y || has (goal (groundSets goalLimit b) g) x || has (goal (groundSets goalLimit b) g) y)
         (λ g. knownIndependent (groundAt b g) (freeAt b g) (listed b))
         (λ n z u. ground-at n z (omega (arith, u, sets-length)))
         (λ n x y z u lx ly.
-        ap (λ (m : ℕ). has (getD (pairRows 64 b) x 0) y || has m x || has m y) (ground-at n z (omega (arith, u, sets-length)))
-        ∙ known-is (has (getD (pairRows 64 b) x 0) y) (groundAt b n) x y (row-at x y lx ly))
+        ap (λ (m : ℕ). has (getD (pairRows variableLimit b) x 0) y || has m x || has m y) (ground-at n z (omega (arith, u, sets-length)))
+        ∙ known-is (has (getD (pairRows variableLimit b) x 0) y) (groundAt b n) x y (row-at x y lx ly))
 
     -- the text that the code writes
-    pub facts-text : melText 64 (headSet b) (take (goalCount b) (goalSets 32 b)) (groundSets 32 b) (pairRows 64 b) ≡ mel b
-    facts-text = ap (λ (l : List ℕ). melText 64 (headSet b) l (groundSets 32 b) (pairRows 64 b)) (front-sets h) ∙ one-text
+    pub facts-text : melText variableLimit (headSet b) (take (goalCount b) (goalSets goalLimit b)) (groundSets goalLimit b) (pairRows variableLimit b) ≡ mel b
+    facts-text = ap (λ (l : List ℕ). melText variableLimit (headSet b) l (groundSets goalLimit b) (pairRows variableLimit b)) (front-sets h) ∙ one-text
 
-    pub facts-length : length (take (goalCount b) (goalSets 32 b)) ≡ goalCount b
+    pub facts-length : length (take (goalCount b) (goalSets goalLimit b)) ≡ goalCount b
     facts-length = ap length (front-sets h) ∙ sets-length
 
 -- of a clause that was decoded
 module _ (b : List ℕ) (w : WellFormed b) (c : Clause) (e : c ≡ decoded b) where
-  pub clause-text : melText 64 (c .head) (take (c .n) (c .sets)) (c .grounds) (c .listed) ≡ mel b
+  pub clause-text : melText variableLimit (c .head) (take (c .n) (c .sets)) (c .grounds) (c .listed) ≡ mel b
   unfolding decoded
-  clause-text = ap (λ (x : Clause). melText 64 (x .head) (take (x .n) (x .sets)) (x .grounds) (x .listed)) e ∙ facts-text b (w .goals-to)
+  clause-text = ap (λ (x : Clause). melText variableLimit (x .head) (take (x .n) (x .sets)) (x .grounds) (x .listed)) e ∙ facts-text b (w .goals-to)
 
   pub clause-length : length (take (c .n) (c .sets)) ≡ goalCount b
   unfolding decoded
@@ -108,4 +108,4 @@ module _ (b : List ℕ) (w : WellFormed b) (c : Clause) (e : c ≡ decoded b) wh
   pub clause-room : c .n ≤ length (c .sets)
   unfolding decoded goalSets
   clause-room =
-      omega (arith, clause-count b w c e, w .goals-to, ap (λ (x : Clause). length (x .sets)) e, table-length 32 (goalCount b) (λ i. goalSet b (suc i)))
+      omega (arith, clause-count b w c e, w .goals-to, ap (λ (x : Clause). length (x .sets)) e, table-length goalLimit (goalCount b) (λ i. goalSet b (suc i)))

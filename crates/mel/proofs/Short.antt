@@ -6,7 +6,7 @@ use native.Mathlib.Omega.{arith}
 use lib.ListN.{length, take}
 use lib.Seq.{getD-take}
 use Rattle.logic.proofs.Table.{table-at}
-use Rattle.sets.specs.Sets.{has, count}
+use Rattle.sets.specs.Sets.{goalLimit, variableLimit, has, count}
 use Rattle.sets.proofs.Membership.{member-below}
 use Rattle.sets.proofs.Builder.{members-lt}
 use Rattle.record_fields.specs.Fields.{goalCount, headSet, goalSet}
@@ -23,14 +23,14 @@ use Rattle.mel.proofs.Record.{facts-text, facts-length}
 
 module _ (b : List ℕ) (w : WellFormed b) where
   abbrev sets : List ℕ
-  sets = take (goalCount b) (goalSets 32 b)
+  sets = take (goalCount b) (goalSets goalLimit b)
 
   goal-is : (g : ℕ) → 0 < g → g ≤ goalCount b → goal sets g ≡ goalSet b g
   unfolding goal goalSets
   goal-is g l h =
       let i : suc (g - 1) ≡ g = omega arith in
-      getD-take (goalCount b) (goalSets 32 b) (g - 1) 0 (omega arith)
-      ∙ table-at 32 (goalCount b) (λ k. goalSet b (suc k)) (g - 1) (omega (arith, w .goals-to)) (omega arith)
+      getD-take (goalCount b) (goalSets goalLimit b) (g - 1) 0 (omega arith)
+      ∙ table-at goalLimit (goalCount b) (λ k. goalSet b (suc k)) (g - 1) (omega (arith, w .goals-to)) (omega arith)
       ∙ ap (goalSet b) i
 
   vars-fit : once sets 0 (length sets) < 2 ^ 64
@@ -51,7 +51,7 @@ module _ (b : List ℕ) (w : WellFormed b) where
         w .goals-to,
         ap length (facts-text b (w .goals-to)),
         n,
-        text-most (headSet b) sets (groundSets 32 b) (pairRows 64 b) m vars-fit refl (omega (arith, n, w .goals-to)),
+        text-most (headSet b) sets (groundSets goalLimit b) (pairRows variableLimit b) m vars-fit refl (omega (arith, n, w .goals-to)),
         count-width m vars-fit,
         square v (count-width m vars-fit),
         product (length sets) each (omega (arith, w .goals-to, n)),

@@ -4,6 +4,7 @@ ghost use Prim.Native.Nat.{ℕ, _+_, _*_, _<_, _≤_};
 ghost use lib.ListN.{length};
 use record_rules::Reading;
 use record_rules::Refusal;
+ghost use Rattle.sets.specs.Sets.{goalLimit, variableLimit};
 ghost use Rattle.record_rules.specs.Outcome.{accepted, sizeIn, bufferAfter};
 ghost use Rattle.mel_text.specs.StageTexts as X;
 ghost use Rattle.mel.specs.Annotation as N;
@@ -17,7 +18,7 @@ pub enum MelAnswer {
 
 // No annotation of n goals with v variables is longer.
 fn most(n: usize, v: u32) -> usize
-    requires { ⌜ (n ≤ 32) × (v ≤ 64) ⌝ }
+    requires { ⌜ (n ≤ goalLimit) × (v ≤ variableLimit) ⌝ }
     ensures { λ r. ⌜ r ≡ n * (15 * (v + v * v)) + 8 * n ⌝ }
 {
     let w = v as usize;
@@ -34,13 +35,13 @@ fn write_clause<'a>(
     grounds: &'a [u64],
     listed: &'a [u64; sets::VARIABLES],
 ) -> MelAnswer
-    requires { ⌜ (0 < length (now sets)) × (length (now sets) ≤ 32) ⌝ }
+    requires { ⌜ (0 < length (now sets)) × (length (now sets) ≤ goalLimit) ⌝ }
     ensures { λ r.
         ⌜ N.outcome r
-        ≡ sizeIn (accepted (X.melText 64 head (now (sets .entry)) (now (grounds .entry)) (now (listed .entry)))) (now (out .entry)) ⌝ }
+        ≡ sizeIn (accepted (X.melText variableLimit head (now (sets .entry)) (now (grounds .entry)) (now (listed .entry)))) (now (out .entry)) ⌝ }
     ensures { λ _.
         ⌜ now (out .exit)
-        ≡ bufferAfter (accepted (X.melText 64 head (now (sets .entry)) (now (grounds .entry)) (now (listed .entry)))) (now (out .entry)) ⌝ }
+        ≡ bufferAfter (accepted (X.melText variableLimit head (now (sets .entry)) (now (grounds .entry)) (now (listed .entry)))) (now (out .entry)) ⌝ }
 {
     let n = sets.len();
     let b = mel_stages::up_to(sets);

@@ -2,6 +2,7 @@
 ghost use mathlib.Core.Path.{_≡_};
 ghost use Prim.Native.Nat.{ℕ, _+_, _<_, _≤_, _^_};
 ghost use lib.ListN.{length, replicate};
+ghost use Rattle.sets.specs.Sets.{goalLimit, variableLimit};
 ghost use Rattle.mel_stages.specs.Mel as W;
 ghost use Rattle.mel_stages.specs.Masks as M;
 
@@ -17,16 +18,19 @@ pub fn goal(sets: &[u64], g: usize) -> u64
     0
 }
 
+// A clause has 0 to the most goals: so many counts.
+pub const COUNTS: usize = sets::GOALS + 1;
+
 // At place g the variables of goals 1 to g, up to the last goal.
 pub struct UpTo {
-    pub vars: [u64; 33],
+    pub vars: [u64; COUNTS],
 }
 
 pub fn up_to(sets: &[u64]) -> UpTo
-    requires { ⌜ length (now sets) ≤ 32 ⌝ }
-    ensures { λ r. ⌜ r .vars ≡ M.upTo 33 (now (sets .entry)) ⌝ }
+    requires { ⌜ length (now sets) ≤ goalLimit ⌝ }
+    ensures { λ r. ⌜ r .vars ≡ M.upTo (goalLimit + 1) (now (sets .entry)) ⌝ }
 {
-    let mut vars = [0u64; 33];
+    let mut vars = [0u64; COUNTS];
     let mut m = 0u64;
     let mut g: usize = 0;
     while g <= sets.len() {
@@ -38,10 +42,10 @@ pub fn up_to(sets: &[u64]) -> UpTo
 }
 
 // The p of goals 1 to q, from q downward; `before` is what up_to gives.
-pub fn start_of(head: u64, sets: &[u64], before: &[u64; 33], q: usize) -> usize
-    requires { ⌜ (q ≤ length (now sets)) × (length (now sets) ≤ 32) ⌝ }
-    requires { ⌜ now before ≡ M.upTo 33 (now sets) ⌝ }
-    ensures { λ r. ⌜ r ≡ W.start 64 head (now (sets .entry)) q ⌝ }
+pub fn start_of(head: u64, sets: &[u64], before: &[u64; COUNTS], q: usize) -> usize
+    requires { ⌜ (q ≤ length (now sets)) × (length (now sets) ≤ goalLimit) ⌝ }
+    requires { ⌜ now before ≡ M.upTo (goalLimit + 1) (now sets) ⌝ }
+    ensures { λ r. ⌜ r ≡ W.start variableLimit head (now (sets .entry)) q ⌝ }
 {
     let mut after = 0u64;
     let mut p = q;
@@ -82,8 +86,8 @@ pub fn counted(sets: &[u64], p: usize, q: usize) -> Seen
 
 // Stores s at each place of the set m.
 fn note(own: &mut [u64], m: u64, s: u64)
-    requires { ⌜ length (now own) ≡ 64 ⌝ }
-    ensures { λ r. ⌜ M.Noted 64 (now (own .entry)) m s (now (own .exit)) ⌝ }
+    requires { ⌜ length (now own) ≡ variableLimit ⌝ }
+    ensures { λ r. ⌜ M.Noted variableLimit (now (own .entry)) m s (now (own .exit)) ⌝ }
 {
     let mut rest = m;
     while rest != 0 {
@@ -96,8 +100,8 @@ fn note(own: &mut [u64], m: u64, s: u64)
 // Stores for each x of k the set of the first of the goals p+1 to q that holds x, and nothing where none does.
 pub fn own_goals(own: &mut [u64], sets: &[u64], p: usize, q: usize, k: u64)
     requires { ⌜ (p ≤ q) × (q < 2 ^ 32) ⌝ }
-    requires { ⌜ now own ≡ replicate 64 0 ⌝ }
-    ensures { λ r. ⌜ M.OwnGoals 64 (now (sets .entry)) p q k (now (own .exit)) ⌝ }
+    requires { ⌜ now own ≡ replicate variableLimit 0 ⌝ }
+    ensures { λ r. ⌜ M.OwnGoals variableLimit (now (sets .entry)) p q k (now (own .exit)) ⌝ }
 {
     let mut g = q;
     while p < g {
@@ -116,7 +120,7 @@ pub fn candidates(s: Seen, met: u64, ground: u64) -> u64
 
 // Those of the candidates k that stand in a check with x, above it; row has the variables listed with x, own is the set of x's goal.
 pub fn partners(k: u64, row: u64, own: u64, x: u32) -> u64
-    requires { ⌜ x < 64 ⌝ }
+    requires { ⌜ x < variableLimit ⌝ }
     ensures { λ r. ⌜ r ≡ M.apart k row own x ⌝ }
 {
     let b = sets::below(x + 1);

@@ -4,6 +4,7 @@ ghost use mathlib.Core.Bool.{true};
 ghost use Prim.Native.Nat.{ℕ, _+_, _-_, _^_, _<_, _≤_, max};
 ghost use lib.ListN.{length};
 ghost use lib.Seq as Q;
+ghost use Rattle.sets.specs.Sets.{goalLimit, variableLimit};
 ghost use Rattle.buffer.specs.Text.{Wrote};
 ghost use Rattle.buffer.specs.Decimal.{decimal};
 ghost use Rattle.mel_stages.specs.Mel as W;
@@ -55,8 +56,8 @@ fn put_indep(out: &mut [u8], at: usize, x: usize, y: usize) -> usize
 
 // Writes the check of each variable of the set m, ascending, a comma before each.
 pub fn put_grounds(out: &mut [u8], at: usize, m: u64) -> usize
-    requires { ⌜ at + length (C.groundsText 64 m) < 2 ^ 63 ⌝ }
-    ensures { λ r. ⌜ Wrote (C.groundsText 64 m) at (now (out .entry)) r (now (out .exit)) ⌝ }
+    requires { ⌜ at + length (C.groundsText variableLimit m) < 2 ^ 63 ⌝ }
+    ensures { λ r. ⌜ Wrote (C.groundsText variableLimit m) at (now (out .entry)) r (now (out .exit)) ⌝ }
 {
     let mut o = at;
     let mut rest = m;
@@ -71,8 +72,8 @@ pub fn put_grounds(out: &mut [u8], at: usize, m: u64) -> usize
 // Writes the check of x with each variable of the set m, ascending, a comma before each.
 fn put_row(out: &mut [u8], at: usize, x: usize, m: u64) -> usize
     requires { ⌜ x < 100 ⌝ }
-    requires { ⌜ at + length (C.rowText 64 x m) < 2 ^ 63 ⌝ }
-    ensures { λ r. ⌜ Wrote (C.rowText 64 x m) at (now (out .entry)) r (now (out .exit)) ⌝ }
+    requires { ⌜ at + length (C.rowText variableLimit x m) < 2 ^ 63 ⌝ }
+    ensures { λ r. ⌜ Wrote (C.rowText variableLimit x m) at (now (out .entry)) r (now (out .exit)) ⌝ }
 {
     let mut o = at;
     let mut rest = m;
@@ -92,8 +93,8 @@ fn put_rows(
     listed: &[u64; sets::VARIABLES],
     k: u64,
 ) -> usize
-    requires { ⌜ at + length (C.rowsText 64 (now own) (now listed) k k) < 2 ^ 63 ⌝ }
-    ensures { λ r. ⌜ Wrote (C.rowsText 64 (now (own .entry)) (now (listed .entry)) k k) at (now (out .entry)) r (now (out .exit)) ⌝ }
+    requires { ⌜ at + length (C.rowsText variableLimit (now own) (now listed) k k) < 2 ^ 63 ⌝ }
+    ensures { λ r. ⌜ Wrote (C.rowsText variableLimit (now (own .entry)) (now (listed .entry)) k k) at (now (out .entry)) r (now (out .exit)) ⌝ }
 {
     let mut o = at;
     let mut rest = k;
@@ -117,8 +118,8 @@ pub fn put_pairs(
     k: u64,
 ) -> usize
     requires { ⌜ (p ≤ q) × (q < 2 ^ 32) ⌝ }
-    requires { ⌜ at + length (C.pairsText 64 (now sets) (now listed) p q k k) < 2 ^ 63 ⌝ }
-    ensures { λ r. ⌜ Wrote (C.pairsText 64 (now (sets .entry)) (now (listed .entry)) p q k k) at (now (out .entry)) r (now (out .exit)) ⌝ }
+    requires { ⌜ at + length (C.pairsText variableLimit (now sets) (now listed) p q k k) < 2 ^ 63 ⌝ }
+    ensures { λ r. ⌜ Wrote (C.pairsText variableLimit (now (sets .entry)) (now (listed .entry)) p q k k) at (now (out .entry)) r (now (out .exit)) ⌝ }
 {
     if k == 0 {
         return at;
@@ -165,13 +166,13 @@ struct Checks {
 fn checks_of(
     head: u64,
     sets: &[u64],
-    before: &[u64; 33],
+    before: &[u64; mel_stages::COUNTS],
     grounds: &[u64],
     p: usize,
     q: usize,
 ) -> Checks
-    requires { ⌜ (p ≤ q) × ((q ≤ length (now sets)) × (length (now sets) ≤ 32)) ⌝ }
-    requires { ⌜ now before ≡ M.upTo 33 (now sets) ⌝ }
+    requires { ⌜ (p ≤ q) × ((q ≤ length (now sets)) × (length (now sets) ≤ goalLimit)) ⌝ }
+    requires { ⌜ now before ≡ M.upTo (goalLimit + 1) (now sets) ⌝ }
     ensures { λ r. ⌜ r .ground ≡ X.groundSet (now (sets .entry)) (now (grounds .entry)) p q ⌝ }
     ensures { λ r. ⌜ r .pairs ≡ X.pairSet head (now (sets .entry)) (now (grounds .entry)) p q ⌝ }
 {
@@ -192,16 +193,16 @@ fn put_checks(
     at: usize,
     head: u64,
     sets: &[u64],
-    before: &[u64; 33],
+    before: &[u64; mel_stages::COUNTS],
     grounds: &[u64],
     listed: &[u64; sets::VARIABLES],
     p: usize,
     q: usize,
 ) -> usize
-    requires { ⌜ (p ≤ q) × ((q ≤ length (now sets)) × (length (now sets) ≤ 32)) ⌝ }
-    requires { ⌜ now before ≡ M.upTo 33 (now sets) ⌝ }
-    requires { ⌜ at + length (X.checksText 64 head (now sets) (now grounds) (now listed) true p q) < 2 ^ 63 ⌝ }
-    ensures { λ r. ⌜ Wrote (X.checksText 64 head (now (sets .entry)) (now (grounds .entry)) (now (listed .entry)) true p q) at (now (out .entry)) r (now (out .exit)) ⌝ }
+    requires { ⌜ (p ≤ q) × ((q ≤ length (now sets)) × (length (now sets) ≤ goalLimit)) ⌝ }
+    requires { ⌜ now before ≡ M.upTo (goalLimit + 1) (now sets) ⌝ }
+    requires { ⌜ at + length (X.checksText variableLimit head (now sets) (now grounds) (now listed) true p q) < 2 ^ 63 ⌝ }
+    ensures { λ r. ⌜ Wrote (X.checksText variableLimit head (now (sets .entry)) (now (grounds .entry)) (now (listed .entry)) true p q) at (now (out .entry)) r (now (out .exit)) ⌝ }
 {
     let c = checks_of(head, sets, before, grounds, p, q);
     let o = put_grounds(out, at, c.ground);
@@ -222,16 +223,16 @@ fn put_stage(
     at: usize,
     head: u64,
     sets: &[u64],
-    before: &[u64; 33],
+    before: &[u64; mel_stages::COUNTS],
     grounds: &[u64],
     listed: &[u64; sets::VARIABLES],
     p: usize,
     q: usize,
 ) -> usize
-    requires { ⌜ (p < q) × ((q ≤ length (now sets)) × (length (now sets) ≤ 32)) ⌝ }
-    requires { ⌜ now before ≡ M.upTo 33 (now sets) ⌝ }
-    requires { ⌜ at + length (X.stageText 64 head (now sets) (now grounds) (now listed) p q) < 2 ^ 63 ⌝ }
-    ensures { λ r. ⌜ Wrote (X.stageText 64 head (now (sets .entry)) (now (grounds .entry)) (now (listed .entry)) p q) at (now (out .entry)) r (now (out .exit)) ⌝ }
+    requires { ⌜ (p < q) × ((q ≤ length (now sets)) × (length (now sets) ≤ goalLimit)) ⌝ }
+    requires { ⌜ now before ≡ M.upTo (goalLimit + 1) (now sets) ⌝ }
+    requires { ⌜ at + length (X.stageText variableLimit head (now sets) (now grounds) (now listed) p q) < 2 ^ 63 ⌝ }
+    ensures { λ r. ⌜ Wrote (X.stageText variableLimit head (now (sets .entry)) (now (grounds .entry)) (now (listed .entry)) p q) at (now (out .entry)) r (now (out .exit)) ⌝ }
 {
     if q == p + 1 {
         return buffer::put_number(out, at, q);
@@ -249,15 +250,15 @@ pub fn put_stages(
     at: usize,
     head: u64,
     sets: &[u64],
-    before: &[u64; 33],
+    before: &[u64; mel_stages::COUNTS],
     grounds: &[u64],
     listed: &[u64; sets::VARIABLES],
     q: usize,
 ) -> usize
-    requires { ⌜ (0 < q) × ((q ≤ length (now sets)) × (length (now sets) ≤ 32)) ⌝ }
-    requires { ⌜ now before ≡ M.upTo 33 (now sets) ⌝ }
-    requires { ⌜ at + length (X.stagesText 64 head (now sets) (now grounds) (now listed) q) < 2 ^ 63 ⌝ }
-    ensures { λ r. ⌜ Wrote (X.stagesText 64 head (now (sets .entry)) (now (grounds .entry)) (now (listed .entry)) q) at (now (out .entry)) r (now (out .exit)) ⌝ }
+    requires { ⌜ (0 < q) × ((q ≤ length (now sets)) × (length (now sets) ≤ goalLimit)) ⌝ }
+    requires { ⌜ now before ≡ M.upTo (goalLimit + 1) (now sets) ⌝ }
+    requires { ⌜ at + length (X.stagesText variableLimit head (now sets) (now grounds) (now listed) q) < 2 ^ 63 ⌝ }
+    ensures { λ r. ⌜ Wrote (X.stagesText variableLimit head (now (sets .entry)) (now (grounds .entry)) (now (listed .entry)) q) at (now (out .entry)) r (now (out .exit)) ⌝ }
 {
     let p = mel_stages::start_of(head, sets, before, q);
     if p == 0 {

@@ -7,6 +7,7 @@ use native.Mathlib.Omega.{arith}
 use lib.Dec.{ltb, isLe}
 use lib.ListN.{getD}
 use borrow.Author.Tests.{le-leb}
+use Rattle.sets.specs.Sets.{goalLimit, variableLimit}
 use Rattle.sets.proofs.Builder.{setOf-cong}
 use Rattle.logic.proofs.Table.{table-cong}
 use Rattle.graph.specs.Closure.{IsGraph, closing}
@@ -37,42 +38,42 @@ earlier-at n i j h =
     and-true true = refl
     and-true false = refl
 
-module _ (n : ℕ) (sets grounds listed : List ℕ) (h : n ≤ 32) where
+module _ (n : ℕ) (sets grounds listed : List ℕ) (h : n ≤ goalLimit) where
   -- the waits of a clause are a graph
-  pub waits-graph : IsGraph (waitRows 64 n sets grounds listed)
+  pub waits-graph : IsGraph (waitRows variableLimit n sets grounds listed)
   unfolding waitRows
-  waits-graph = (h, rows-within 32 n (waitsIn 64 0 sets grounds listed) h)
+  waits-graph = (h, rows-within goalLimit n (waitsIn variableLimit 0 sets grounds listed) h)
 
 module _ (b : List ℕ) (w : WellFormed b) where
-  few : goalCount b ≤ 32
+  few : goalCount b ≤ goalLimit
   few = w .goals-to
 
   waits-at : (i j : ℕ) → i < goalCount b → j < goalCount b
-      → waitsAt 64 0 (goalSets 32 b) (groundSets 32 b) (pairRows 64 b) i j ≡ waits b (suc i) (suc j)
+      → waitsAt variableLimit 0 (goalSets goalLimit b) (groundSets goalLimit b) (pairRows variableLimit b) i j ≡ waits b (suc i) (suc j)
   unfolding waits
   waits-at i j li lj =
       ap₂ _&&_ (earlier-at (goalCount b) i j lj)
-      (ap (λ (g : ℕ). waitsBy g 0 (pairRows 64 b) 64 (getD (goalSets 32 b) i 0) (getD (goalSets 32 b) j 0)) (ground-at 32 b i few li)
-      ∙ ap₂ (λ (x : ℕ) (y : ℕ). waitsBy (groundAt b (suc i)) (freeAt b (suc i)) (pairRows 64 b) 64 x y) (goal-at 32 b i few li) (goal-at 32 b j few lj)
-      ∙ waits-listed (groundAt b (suc i)) (freeAt b (suc i)) (pairRows 64 b) (listed b) 64 (goalSet b (suc i)) (goalSet b (suc j)) (pair-at 64 b))
+      (ap (λ (g : ℕ). waitsBy g 0 (pairRows variableLimit b) variableLimit (getD (goalSets goalLimit b) i 0) (getD (goalSets goalLimit b) j 0)) (ground-at goalLimit b i few li)
+      ∙ ap₂ (λ (x : ℕ) (y : ℕ). waitsBy (groundAt b (suc i)) (freeAt b (suc i)) (pairRows variableLimit b) variableLimit x y) (goal-at goalLimit b i few li) (goal-at goalLimit b j few lj)
+      ∙ waits-listed (groundAt b (suc i)) (freeAt b (suc i)) (pairRows variableLimit b) (listed b) variableLimit (goalSet b (suc i)) (goalSet b (suc j)) (pair-at variableLimit b))
 
-  pub waits-decoded : waitRows 64 (goalCount b) (goalSets 32 b) (groundSets 32 b) (pairRows 64 b) ≡ waiting b
+  pub waits-decoded : waitRows variableLimit (goalCount b) (goalSets goalLimit b) (groundSets goalLimit b) (pairRows variableLimit b) ≡ waiting b
   unfolding waitRows waiting rowsOf goalsOf
   waits-decoded =
       ap (λ (l : List ℕ). record { n = goalCount b; rows = l })
-      (table-cong 32 (goalCount b) _ (λ i. goalsOf (goalCount b) (waits b (suc i)))
+      (table-cong goalLimit (goalCount b) _ (λ i. goalsOf (goalCount b) (waits b (suc i)))
       (λ i l. setOf-cong (goalCount b) _ (λ j. waits b (suc i) (suc j)) (λ j k. waits-at i j l k)))
 
-  pub order-decoded : orderRows 64 (goalCount b) (goalSets 32 b) (groundSets 32 b) (pairRows 64 b) ≡ order b
+  pub order-decoded : orderRows variableLimit (goalCount b) (goalSets goalLimit b) (groundSets goalLimit b) (pairRows variableLimit b) ≡ order b
   unfolding orderRows waiting order before
   order-decoded = ap closing waits-decoded ∙ closing-of (goalCount b) (waits b) few
 
 -- the same of a clause that was decoded
 module _ (b : List ℕ) (w : WellFormed b) (c : Clause) (e : c ≡ decoded b) where
-  pub clause-waits : {g : Graph} → g ≡ waitRows 64 (c .n) (c .sets) (c .grounds) (c .listed) → g ≡ waiting b
+  pub clause-waits : {g : Graph} → g ≡ waitRows variableLimit (c .n) (c .sets) (c .grounds) (c .listed) → g ≡ waiting b
   unfolding decoded
-  clause-waits h = h ∙ ap (λ (x : Clause). waitRows 64 (x .n) (x .sets) (x .grounds) (x .listed)) e ∙ waits-decoded b w
+  clause-waits h = h ∙ ap (λ (x : Clause). waitRows variableLimit (x .n) (x .sets) (x .grounds) (x .listed)) e ∙ waits-decoded b w
 
-  pub clause-order : {g : Graph} → g ≡ orderRows 64 (c .n) (c .sets) (c .grounds) (c .listed) → g ≡ order b
+  pub clause-order : {g : Graph} → g ≡ orderRows variableLimit (c .n) (c .sets) (c .grounds) (c .listed) → g ≡ order b
   unfolding decoded
-  clause-order h = h ∙ ap (λ (x : Clause). orderRows 64 (x .n) (x .sets) (x .grounds) (x .listed)) e ∙ order-decoded b w
+  clause-order h = h ∙ ap (λ (x : Clause). orderRows variableLimit (x .n) (x .sets) (x .grounds) (x .listed)) e ∙ order-decoded b w

@@ -7,6 +7,7 @@ use Prim.Native.Nat.{ℕ, _≤_, _<_}
 use native.Mathlib.Omega.{arith}
 use lib.Dec.{leb, ltb}
 use borrow.Author.Tests.{leb-true, ltb-true}
+use Rattle.sets.specs.Sets.{variableLimit}
 use Rattle.logic.proofs.Bools.{iff, and-l, and-r}
 use Rattle.record_fields.specs.Facts.{groundAt, freeAt}
 use Rattle.record_fields.specs.Fields.{goalCount, goalSet, listed}
@@ -21,7 +22,7 @@ waits-parts : (b : List ℕ) (i j : ℕ) → waits b i j ≡ true → (1 ≤ i) 
 unfolding waits
 waits-parts b i j h =
     let n = goalCount b in
-    let e = and-l (earlier n i j) (not (independent (groundAt b i) (freeAt b i) (listed b) 64 (goalSet b i) (goalSet b j))) h in
+    let e = and-l (earlier n i j) (not (independent (groundAt b i) (freeAt b i) (listed b) variableLimit (goalSet b i) (goalSet b j))) h in
     let d = and-l (leb 1 i && ltb i j) (leb j n) e in
     (leb-true 1 i (and-l (leb 1 i) (ltb i j) d), ltb-true i j (and-r (leb 1 i) (ltb i j) d), leb-true j n (and-r (leb 1 i && ltb i j) (leb j n) e))
 

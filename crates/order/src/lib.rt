@@ -19,9 +19,9 @@ fn put_ties(
     grounds: &[u64; Graph::MAX],
     listed: &[u64; sets::VARIABLES],
 )
-    requires { ⌜ (n ≤ 32) × (now low ≡ replicate 32 0) × (now high ≡ replicate 32 0) ⌝ }
-    ensures { λ _. ⌜ now (low .exit) ≡ W.lowTies 32 32 64 n (now (sets .entry)) (now (grounds .entry)) (now (listed .entry)) ⌝ }
-    ensures { λ _. ⌜ now (high .exit) ≡ W.highTies 32 32 64 n (now (sets .entry)) (now (grounds .entry)) (now (listed .entry)) ⌝ }
+    requires { ⌜ (n ≤ S.goalLimit) × (now low ≡ replicate S.goalLimit 0) × (now high ≡ replicate S.goalLimit 0) ⌝ }
+    ensures { λ _. ⌜ now (low .exit) ≡ W.lowTies S.goalLimit 32 S.variableLimit n (now (sets .entry)) (now (grounds .entry)) (now (listed .entry)) ⌝ }
+    ensures { λ _. ⌜ now (high .exit) ≡ W.highTies S.goalLimit 32 S.variableLimit n (now (sets .entry)) (now (grounds .entry)) (now (listed .entry)) ⌝ }
 {
     let mut i = 0;
     while i < n {
@@ -49,8 +49,8 @@ fn put_two(
     next: u64,
     j: usize,
 )
-    requires { ⌜ (j + 1 < 32) × (length (now rows) ≡ 32) ⌝ }
-    ensures { λ _. ⌜ now (rows .exit) ≡ W.putTwo 32 (now (rows .entry)) (W.tiesIn 32 (now (low .entry)) (now (high .entry))) later next j ⌝ }
+    requires { ⌜ (j + 1 < S.goalLimit) × (length (now rows) ≡ S.goalLimit) ⌝ }
+    ensures { λ _. ⌜ now (rows .exit) ≡ W.putTwo S.goalLimit (now (rows .entry)) (W.tiesIn 32 (now (low .entry)) (now (high .entry))) later next j ⌝ }
 {
     let one = Graph::single(j + 1);
     let two = Graph::single(j + 2);
@@ -81,8 +81,8 @@ pub fn waits_of<'a>(
     grounds: &'a [u64; Graph::MAX],
     listed: &'a [u64; sets::VARIABLES],
 ) -> Graph
-    requires { ⌜ n ≤ 32 ⌝ }
-    ensures { λ r. ⌜ r ≡ W.waitRows 64 n (now (sets .entry)) (now (grounds .entry)) (now (listed .entry)) ⌝ }
+    requires { ⌜ n ≤ S.goalLimit ⌝ }
+    ensures { λ r. ⌜ r ≡ W.waitRows S.variableLimit n (now (sets .entry)) (now (grounds .entry)) (now (listed .entry)) ⌝ }
 {
     let mut low = [0u32; Graph::MAX];
     let mut high = [0u32; Graph::MAX];
@@ -106,8 +106,8 @@ pub fn order_of<'a>(
     grounds: &'a [u64; Graph::MAX],
     listed: &'a [u64; sets::VARIABLES],
 ) -> Graph
-    requires { ⌜ n ≤ 32 ⌝ }
-    ensures { λ r. ⌜ r ≡ W.orderRows 64 n (now (sets .entry)) (now (grounds .entry)) (now (listed .entry)) ⌝ }
+    requires { ⌜ n ≤ S.goalLimit ⌝ }
+    ensures { λ r. ⌜ r ≡ W.orderRows S.variableLimit n (now (sets .entry)) (now (grounds .entry)) (now (listed .entry)) ⌝ }
 {
     waits_of(n, sets, grounds, listed).closed()
 }

@@ -12,7 +12,7 @@ use lib.ListN.{getD}
 use lib.Pow.{pow-pos, pow-mono}
 use borrow.Author.Tests.{eqb-true, eq-eqb, ne-eqb, lt-ltb, ltb-true}
 use Rattle.logic.proofs.Bools.{and-l, not-true, not-false}
-use Rattle.sets.specs.Sets.{has, union, meet, without, below, single, first, setOf}
+use Rattle.sets.specs.Sets.{goalLimit, has, union, meet, without, below, single, first, setOf}
 use Rattle.sets.proofs.Membership.{has-union, has-meet, has-without, has-below, has-empty, first-least, first-member}
 use Rattle.sets.proofs.Builder.{meet-lt, has-setOf, setOf-lt, setOf-more}
 use Rattle.sets.proofs.Members.{first-in}
@@ -51,7 +51,7 @@ module _ (n p q : ℕ) where
   odd-in : (j : ℕ) → has (odd n p q) j ≡ true → j < n
   odd-in j h = ltb-true j n (and-l (ltb j n) ((has p j && not (has q j)) || (has q j && not (has p j))) (sym (in-odd j) ∙ h))
 
-  odd-lt : n ≤ 32 → odd n p q < 2 ^ 32
+  odd-lt : n ≤ goalLimit → odd n p q < 2 ^ 32
   odd-lt few =
       let pos = pow-pos n in
       lt-of-lt-of-le (meet-lt n (below n) (union (without p q) (without q p)) (omega arith)) (pow-mono few)
@@ -71,7 +71,7 @@ module _ (n : ℕ) (a b : List ℕ) where
     pub row-same : x ≡ 0 → row (suc i) ≡ none
     row-same e = nowhere n (λ j. differ (ahead a) (ahead b) (suc i) j) (λ j l. no-differ j l (ap (λ z. has z j) e ∙ has-empty j))
 
-    pub row-hit : n ≤ 32 → (x ≡ 0 → ⊥) → row (suc i) ≡ some (suc i, suc (first 32 x))
+    pub row-hit : n ≤ goalLimit → (x ≡ 0 → ⊥) → row (suc i) ≡ some (suc i, suc (first 32 x))
     row-hit few e =
         let here = first-member 32 x (first-in 32 x (odd-lt n (getD a i 0) (getD b i 0) few) e) in
         let l = odd-in n (getD a i 0) (getD b i 0) (first 32 x) here in
@@ -108,7 +108,7 @@ module _ (n : ℕ) (a b : List ℕ) where
         next : grown (apart k) ≡ setOf (k + 1) apart
         next = rw (add-one k) (sym (setOf-more k apart))
 
-  module _ (few : n ≤ 32) (set k : ℕ) (le : n ≤ k) (ge : k ≤ n) (m : set ≡ setOf k apart) where
+  module _ (few : n ≤ goalLimit) (set k : ℕ) (le : n ≤ k) (ge : k ≤ n) (m : set ≡ setOf k apart) where
     unmarked : (i : ℕ) → i < n → has set i ≡ false → row (suc i) ≡ none
     unmarked i l h =
         row-same i
@@ -126,7 +126,7 @@ module _ (n : ℕ) (a b : List ℕ) where
       in-set : has (setOf k apart) i ≡ true
       in-set = ap₂ (λ u v. has u v) (sym m) e ∙ first-member 32 set (first-in 32 set small some-one)
 
-      pub compare-row : (i < n) × (i < 32)
+      pub compare-row : (i < n) × (i < goalLimit)
       compare-row =
           let l : i < k = ltb-true i k (and-l (ltb i k) (apart i) (sym (has-setOf k apart i) ∙ in-set)) in
           (omega arith, omega arith)
@@ -138,8 +138,8 @@ module _ (n : ℕ) (a b : List ℕ) where
         first-is : j ≡ first 32 (x i)
         first-is = q ∙ ap (λ z. first 32 (meet z (union (without (getD a i 0) (getD b i 0)) (without (getD b i 0) (getD a i 0))))) g
 
-        pub compare-place : j < 32
-        compare-place = subst (λ z. z < 32) (sym first-is) (first-in 32 (x i) (odd-lt n (getD a i 0) (getD b i 0) few) uneven)
+        pub compare-place : j < goalLimit
+        compare-place = subst (λ z. z < goalLimit) (sym first-is) (first-in 32 (x i) (odd-lt n (getD a i 0) (getD b i 0) few) uneven)
 
         pub compare-hit : Differs (record { i = i + 1; j = j + 1 }) ≡ said (firstDiffer n (ahead a) (ahead b))
         unfolding firstDiffer
@@ -156,18 +156,18 @@ said-verdict none = refl
 said-verdict (some p) = refl
 
 -- the rows of two orders differ where the orders do
-pub rows-differ : (n : ℕ) (R S : ℕ → ℕ → Bool) → n ≤ 32 → firstDiffer n (ahead (rowsOf 32 n R)) (ahead (rowsOf 32 n S)) ≡ firstDiffer n R S
+pub rows-differ : (n : ℕ) (R S : ℕ → ℕ → Bool) → n ≤ goalLimit → firstDiffer n (ahead (rowsOf goalLimit n R)) (ahead (rowsOf goalLimit n S)) ≡ firstDiffer n R S
 rows-differ n R S few =
-    differ-cong n (ahead (rowsOf 32 n R)) R (ahead (rowsOf 32 n S)) S (λ i j g h. rows-say 32 n R i j few (g .0) (g .1) (h .0) (h .1))
-    (λ i j g h. rows-say 32 n S i j few (g .0) (g .1) (h .0) (h .1))
+    differ-cong n (ahead (rowsOf goalLimit n R)) R (ahead (rowsOf goalLimit n S)) S (λ i j g h. rows-say goalLimit n R i j few (g .0) (g .1) (h .0) (h .1))
+    (λ i j g h. rows-say goalLimit n S i j few (g .0) (g .1) (h .0) (h .1))
 
 -- ---- the check, from the reading of the text and the comparison of the rows
 pub checked-refused : (n : ℕ) (R : ℕ → ℕ → Bool) (t : List ℕ) (k p : ℕ) → readText n t ≡ refused k p → Check.checked n R t ≡ refused k p
 unfolding Check.checked
 checked-refused n R t k p h = ap (λ r. Check.judged n R r) h
 
-pub checked-compared : (n : ℕ) (R : ℕ → ℕ → Bool) (t : List ℕ) (e : Expr) → n ≤ 32 → readText n t ≡ accepted e
-    → Check.checked n R t ≡ accepted (verdictOf (said (firstDiffer n (ahead (rowsOf 32 n R)) (ahead (rowsOf 32 n (before e))))))
+pub checked-compared : (n : ℕ) (R : ℕ → ℕ → Bool) (t : List ℕ) (e : Expr) → n ≤ goalLimit → readText n t ≡ accepted e
+    → Check.checked n R t ≡ accepted (verdictOf (said (firstDiffer n (ahead (rowsOf goalLimit n R)) (ahead (rowsOf goalLimit n (before e))))))
 unfolding Check.checked
 checked-compared n R t e few h =
     ap (λ r. Check.judged n R r) h

@@ -26,7 +26,7 @@ fn odd(goals: u32, p: u32, q: u32) -> u32
 
 // One row of each order a turn: the goals whose rows differ, of these the first, and the first goal that is in just one of its two rows.
 pub fn compare(a: &[u32; Graph::MAX], b: &[u32; Graph::MAX], n: usize) -> Verdict
-    requires { ⌜ n ≤ 32 ⌝ }
+    requires { ⌜ n ≤ S.goalLimit ⌝ }
     ensures { λ r. ⌜ r ≡ said (firstDiffer n (ahead (now (a .entry))) (ahead (now (b .entry)))) ⌝ }
 {
     let goals = sets::below32(n);

@@ -8,15 +8,15 @@ use lib.ListN.{length}
 use lib.Pow.{pow-mono}
 use Rattle.sets.proofs.Membership.{below-of, member-below}
 use Rattle.sets.proofs.Builder.{members-lt}
-use Rattle.record_fields.specs.Fields.{byte, goalCount, varCount, pairCount, headSet, groundSet, goalSet, textPlace, textLength, goalEnd, placeAfter, pairAt}
+use Rattle.record_fields.specs.Fields.{fixedSize, headerSize, byte, goalCount, varCount, pairCount, headSet, groundSet, goalSet, textPlace, textLength, goalEnd, placeAfter, pairAt}
 use Rattle.record_rules.specs.declared.Reading.the-variants.{Fine}
-use Rattle.record_rules.specs.Reading.{reading}
+use Rattle.record_rules.specs.Reading.{textLimit, reading}
 use Rattle.record.specs.WellFormed.{WellFormedGoal, WellFormed}
 use Rattle.record.specs.Limits.{Bytes, longest}
 use Rattle.record.proofs.WellFormed.{fine-well-formed}
 
 -- each goal has nine fixed bytes and a text of at most 40
-pub places-limit : (b : List ℕ) (g : ℕ) → ((k : ℕ) → k < g → WellFormedGoal b (placeAfter b k)) → placeAfter b g ≤ 24 + 49 * g
+pub places-limit : (b : List ℕ) (g : ℕ) → ((k : ℕ) → k < g → WellFormedGoal b (placeAfter b k)) → placeAfter b g ≤ headerSize + (fixedSize + textLimit) * g
 unfolding placeAfter
 places-limit b zero w = omega arith
 places-limit b (suc g) w = let k = w g (omega arith) .length-to in let r = places-limit b g (λ k l. w k (omega arith)) in omega arith
@@ -57,7 +57,7 @@ module _ (b : List ℕ) (w : WellFormed b) where
   unfolding textLength
   text-some g l h = w .goals g l h .length-from
 
-  pub text-limit : (g : ℕ) → 1 ≤ g → g ≤ goalCount b → textLength b g ≤ 40
+  pub text-limit : (g : ℕ) → 1 ≤ g → g ≤ goalCount b → textLength b g ≤ textLimit
   unfolding textLength
   text-limit g l h = w .goals g l h .length-to
 
@@ -82,7 +82,7 @@ module _ (b : List ℕ) (w : WellFormed b) where
 
   -- ---- the length
 
-  pub place-limit : (g : ℕ) → g ≤ goalCount b → placeAfter b g ≤ 24 + 49 * g
+  pub place-limit : (g : ℕ) → g ≤ goalCount b → placeAfter b g ≤ headerSize + (fixedSize + textLimit) * g
   place-limit g h = places-limit b g (λ k l. next-goal k (omega arith))
 
   pub length-limit : Bytes b → length b ≤ longest

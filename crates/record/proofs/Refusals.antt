@@ -8,11 +8,12 @@ use native.Mathlib.Omega.{arith}
 use lib.Dec.{leb}
 use lib.ListN.{length}
 use borrow.Author.Tests.{leb-true, leb-false}
+use Rattle.sets.specs.Sets.{goalLimit}
 use Rattle.record_rules.specs.declared.Refusal.{Refusal}
-use Rattle.record_fields.specs.Fields.{byte, goalCount, pairCount, textAt, textLengthAt, goalEnd, placeAfter, pairsPlace, pairAt}
+use Rattle.record_fields.specs.Fields.{fixedSize, headerSize, byte, goalCount, pairCount, textAt, textLengthAt, goalEnd, placeAfter, pairsPlace, pairAt}
 use Rattle.record_rules.specs.declared.Reading.{Reading}
 use Rattle.record_rules.specs.declared.Reading.the-variants.{Fine, Refused}
-use Rattle.record_rules.specs.Reading.{_must_else_place_, between, firstBad, textLimit, counts, header, goal, goals, pair, pairs, ending, readingOf, versionOne, reading}
+use Rattle.record_rules.specs.Reading.{isTextByte, _must_else_place_, between, firstBad, textLimit, counts, header, goal, goals, pair, pairs, ending, readingOf, versionOne, reading}
 use Rattle.record_rules.proofs.Must.{must-fine, must-holds, between-high}
 use Rattle.record.specs.Limits.{Bytes, longest}
 use Rattle.record.proofs.WellFormed.{goals-fine, goals-out, pairs-fine}
@@ -21,7 +22,7 @@ use Rattle.record.proofs.Limits.{places-limit}
 bad-to : (b : List ℕ) (k at : ℕ) → firstBad b at k ≤ at + k
 unfolding firstBad
 bad-to b zero at = omega arith
-bad-to b (suc k) at = go (between 33 126 (byte b at)) (bad-to b k (suc at))
+bad-to b (suc k) at = go (isTextByte (byte b at)) (bad-to b k (suc at))
   where
     go : (t : Bool) → firstBad b (suc at) k ≤ suc at + k → cond t (firstBad b (suc at) k) at ≤ at + suc k
     go true h = omega arith
@@ -30,7 +31,7 @@ bad-to b (suc k) at = go (between 33 126 (byte b at)) (bad-to b k (suc at))
 module _ (b : List ℕ) where
   -- where the pairs start, and where they end, at the latest
   abbrev starts : ℕ
-  starts = 24 + 49 * 32
+  starts = headerSize + (fixedSize + textLimit) * goalLimit
 
   abbrev ends : ℕ
   ends = starts + 2 * pairCount b
@@ -49,7 +50,7 @@ module _ (b : List ℕ) where
   bounded Fine false k p l h at n = (l, h, at refl refl)
   bounded (Refused r) t k p l h at n = n
 
-  goal-bounded : (at : ℕ) (s : Reading) → (s ≡ Fine → at + 49 ≤ ends) → Bounded s → Bounded (goal b at s)
+  goal-bounded : (at : ℕ) (s : Reading) → (s ≡ Fine → at + (fixedSize + textLimit) ≤ ends) → Bounded s → Bounded (goal b at s)
   unfolding goal
   goal-bounded at s h n =
       bounded _ _ 9 _ (omega arith) (omega arith) (λ e f.
@@ -73,7 +74,7 @@ module _ (b : List ℕ) where
       let m = h e in
       (le-refl (length b), omega (arith, leb-false (textAt b at) (length b) f))) n))))
 
-  goals-bounded : (g : ℕ) (s : Reading) → (s ≡ Fine → g ≤ 32) → Bounded s → Bounded (goals b g s)
+  goals-bounded : (g : ℕ) (s : Reading) → (s ≡ Fine → g ≤ goalLimit) → Bounded s → Bounded (goals b g s)
   unfolding goals
   goals-bounded zero s h n = n
   goals-bounded (suc g) s h n =
@@ -93,15 +94,15 @@ module _ (b : List ℕ) where
       (pairs-bounded k s (omega arith) h n))
 
   -- ---- what was read lies in the record
-  long : (v : ℕ → Bool) → header v b ≡ Fine → 24 ≤ length b
+  long : (v : ℕ → Bool) → header v b ≡ Fine → headerSize ≤ length b
   unfolding header counts
   long v e = leb-true _ _ (must-holds _ _ _ _ (must-fine _ _ _ _ (must-fine _ _ _ _ (must-fine _ _ _ _ (must-fine _ _ _ _ (must-fine _ _ _ _ (must-fine _ _ _ _ e)))))))
 
-  few : (v : ℕ → Bool) → header v b ≡ Fine → goalCount b ≤ 32
+  few : (v : ℕ → Bool) → header v b ≡ Fine → goalCount b ≤ goalLimit
   unfolding header counts
-  few v e = between-high 1 32 (goalCount b) (must-holds _ _ _ _ (must-fine _ _ _ _ (must-fine _ _ _ _ (must-fine _ _ _ _ e))))
+  few v e = between-high 1 goalLimit (goalCount b) (must-holds _ _ _ _ (must-fine _ _ _ _ (must-fine _ _ _ _ (must-fine _ _ _ _ e))))
 
-  goals-inside : (g : ℕ) (s : Reading) → (s ≡ Fine → 24 ≤ length b) → goals b g s ≡ Fine → placeAfter b g ≤ length b
+  goals-inside : (g : ℕ) (s : Reading) → (s ≡ Fine → headerSize ≤ length b) → goals b g s ≡ Fine → placeAfter b g ≤ length b
   unfolding goals goal placeAfter
   goals-inside zero s h e = h e
   goals-inside (suc g) s h e = leb-true _ _ (must-holds _ _ _ _ (must-fine _ _ _ _ e))
@@ -121,10 +122,10 @@ module _ (b : List ℕ) where
       (bounded _ _ 4 _ (omega arith) (omega arith) (λ e f. early (must-fine _ _ _ _ (must-fine _ _ _ _ e)) 5 (omega arith))
       (bounded _ _ 3 _ (omega arith) (omega arith) (λ e f. early (must-fine _ _ _ _ e) 3 (omega arith))
       (bounded _ _ 2 _ (omega arith) (omega arith) (λ e f. (omega arith, omega arith))
-      (bounded Fine _ 1 _ (omega arith) (omega arith) (λ e f. (le-refl (length b), omega (arith, leb-false 24 (length b) f))) tt))))))
+      (bounded Fine _ 1 _ (omega arith) (omega arith) (λ e f. (le-refl (length b), omega (arith, leb-false headerSize (length b) f))) tt))))))
     where
-      early : Fine must leb 24 (length b) else 1 place length b ≡ Fine → (p : ℕ) → p ≤ 24 → Place p
-      early e p h = let l = leb-true 24 (length b) (must-holds Fine _ _ _ e) in (omega arith, omega arith)
+      early : Fine must leb headerSize (length b) else 1 place length b ≡ Fine → (p : ℕ) → p ≤ headerSize → Place p
+      early e p h = let l = leb-true headerSize (length b) (must-holds Fine _ _ _ e) in (omega arith, omega arith)
 
   reading-bounded : Bounded (reading b)
   unfolding reading readingOf ending

@@ -9,12 +9,12 @@ use native.Mathlib.Omega.{arith}
 use lib.Dec.{ltb}
 use borrow.Author.Tests.{ltb-true, lt-ltb, leb-true, le-leb, eqb-true, eq-eqb}
 use Rattle.logic.proofs.Bools.{and-l, and-r, and-i}
-use Rattle.sets.specs.Sets.{within}
+use Rattle.sets.specs.Sets.{goalLimit, within}
 use Rattle.sets.proofs.Membership.{within-lt, lt-within, has-above, below-of, subset-has, has-subset}
 use Rattle.record_fields.specs.Fields.{byte, number, set, goalCount, varCount, pairCount, headSet, groundSet, textAt, textLengthAt, placeAfter, pairAt}
 use Rattle.record_rules.specs.declared.Reading.{Reading}
 use Rattle.record_rules.specs.declared.Reading.the-variants.{Fine}
-use Rattle.record_rules.specs.Reading.{counts, header, textLimit, goal, goals, ordered, ascends, pair, pairs, ending, readingOf, versionOne, reading}
+use Rattle.record_rules.specs.Reading.{greatestTextByte, leastTextByte, counts, header, textLimit, goal, goals, ordered, ascends, pair, pairs, ending, readingOf, versionOne, reading}
 use Rattle.record_rules.proofs.Text.{text-good, good-text}
 use Rattle.record_rules.proofs.Must.{must-so, must-fine, must-holds, between-low, between-high, between-in}
 use Rattle.record.specs.WellFormed.{NoBitFrom, WellFormedGoal, WellFormedPair, WellFormed}
@@ -48,15 +48,15 @@ module _ (b : List ℕ) where
           length-from = between-low 1 textLimit (textLengthAt b at) k;
           length-to = between-high 1 textLimit (textLengthAt b at) k;
           text-whole = leb-true _ _ (must-holds _ _ _ _ e4);
-          text-from = λ i h. between-low 33 126 _ (text i h);
-          text-to = λ i h. between-high 33 126 _ (text i h);
+          text-from = λ i h. between-low leastTextByte greatestTextByte _ (text i h);
+          text-to = λ i h. between-high leastTextByte greatestTextByte _ (text i h);
         }
 
     goal-in : (s : Reading) → WellFormedGoal b at → goal b at s ≡ s
     unfolding goal
     goal-in s w =
         must-so _ _ _ _
-        (eq-eqb _ _ (good-text b (textLengthAt b at) (textAt b at) (λ i h. between-in 33 126 _ (w .text-from i h) (w .text-to i h))))
+        (eq-eqb _ _ (good-text b (textLengthAt b at) (textAt b at) (λ i h. between-in leastTextByte greatestTextByte _ (w .text-from i h) (w .text-to i h))))
         ∙ must-so _ _ _ _ (le-leb _ _ (w .text-whole)) ∙ must-so _ _ _ _ (between-in 1 textLimit (textLengthAt b at) (w .length-from) (w .length-to))
         ∙ must-so _ _ _ _ (bits-within (varCount b) (set b at) (w .set-below)) ∙ must-so _ _ _ _ (le-leb _ _ (w .fixed-whole))
 
@@ -154,8 +154,8 @@ module _ (b : List ℕ) where
         header-whole = leb-true _ _ (must-holds _ _ _ _ h1);
         marked = eqb-true _ _ (must-holds _ _ _ _ h2);
         version-one = eqb-true _ _ (must-holds _ _ _ _ h3);
-        goals-from = between-low 1 32 (goalCount b) (must-holds _ _ _ _ h4);
-        goals-to = between-high 1 32 (goalCount b) (must-holds _ _ _ _ h4);
+        goals-from = between-low 1 goalLimit (goalCount b) (must-holds _ _ _ _ h4);
+        goals-to = between-high 1 goalLimit (goalCount b) (must-holds _ _ _ _ h4);
         vars-to = leb-true _ _ (must-holds _ _ _ _ h5);
         head-below = no-bit (varCount b) (headSet b) (must-holds _ _ _ _ h6);
         ground-inside = subset-has (groundSet b) (headSet b) (must-holds _ _ _ _ h);
@@ -170,5 +170,5 @@ module _ (b : List ℕ) where
       must-so _ _ _ _ (eq-eqb _ _ (w .nothing-left)) ∙ pairs-in (pairCount b) _ (w .pairs)
       ∙ goals-in (goalCount b) _ (λ g h. subst (λ (x : ℕ). WellFormedGoal b (placeAfter b x)) (let e : suc g - 1 ≡ g = omega arith in e) (w .goals (suc g) (omega arith) h))
       ∙ must-so _ _ _ _ (has-subset (groundSet b) (headSet b) (w .ground-inside)) ∙ must-so _ _ _ _ (bits-within (varCount b) (headSet b) (w .head-below))
-      ∙ must-so _ _ _ _ (le-leb _ _ (w .vars-to)) ∙ must-so _ _ _ _ (between-in 1 32 (goalCount b) (w .goals-from) (w .goals-to))
+      ∙ must-so _ _ _ _ (le-leb _ _ (w .vars-to)) ∙ must-so _ _ _ _ (between-in 1 goalLimit (goalCount b) (w .goals-from) (w .goals-to))
       ∙ must-so _ _ _ _ (eq-eqb _ _ (w .version-one)) ∙ must-so _ _ _ _ (eq-eqb _ _ (w .marked)) ∙ must-so _ _ _ _ (le-leb _ _ (w .header-whole))

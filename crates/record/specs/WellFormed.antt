@@ -7,7 +7,7 @@ use Prim.Native.Nat.{ℕ, suc, _+_, _≤_, _<_}
 use lib.ListN.{length}
 use Rattle.sets.specs.Sets.{goalLimit, variableLimit, has}
 use Rattle.record_fields.specs.Fields.{byte, number, set, mark, letters, version, goalCount, varCount, pairCount, headSet, groundSet, headerSize, textAt, textLengthAt, goalEnd, goalPlace, pairAt}
-use Rattle.record_rules.specs.Reading.{textLimit}
+use Rattle.record_rules.specs.Reading.{greatestTextByte, leastTextByte, versionNumber, textLimit}
 
 -- a set without a bit at or above v
 abbrev pub NoBitFrom : ℕ → ℕ → Type 0
@@ -20,8 +20,8 @@ pub record WellFormedGoal (b : List ℕ) (at : ℕ) : Type 0 where
   pub length-from : 1 ≤ textLengthAt b at
   pub length-to : textLengthAt b at ≤ textLimit
   pub text-whole : goalEnd b at ≤ length b
-  pub text-from : (i : ℕ) → i < textLengthAt b at → 33 ≤ byte b (textAt b at + i)
-  pub text-to : (i : ℕ) → i < textLengthAt b at → byte b (textAt b at + i) ≤ 126
+  pub text-from : (i : ℕ) → i < textLengthAt b at → leastTextByte ≤ byte b (textAt b at + i)
+  pub text-to : (i : ℕ) → i < textLengthAt b at → byte b (textAt b at + i) ≤ greatestTextByte
 
 -- pair k, counted from 0
 pub record WellFormedPair (b : List ℕ) (k : ℕ) : Type 0 where
@@ -33,7 +33,7 @@ pub record WellFormedPair (b : List ℕ) (k : ℕ) : Type 0 where
 pub record WellFormed (b : List ℕ) : Type 0 where
   pub header-whole : headerSize ≤ length b
   pub marked : mark b ≡ letters
-  pub version-one : version b ≡ 1
+  pub version-one : version b ≡ versionNumber
   pub goals-from : 1 ≤ goalCount b
   pub goals-to : goalCount b ≤ goalLimit
   pub vars-to : varCount b ≤ variableLimit

@@ -3,10 +3,10 @@ use mathlib.Core.Path.{_≡_, refl}
 use mathlib.Core.List.{List}
 use Prim.Native.Nat.{ℕ, _+_}
 use native.Mathlib.Numerals.{add-one}
-use Rattle.record_fields.specs.Fields.{placeAfter, goalEnd}
+use Rattle.record_fields.specs.Fields.{headerSize, placeAfter, goalEnd}
 
 module _ (b : List ℕ) where
-  pub place-zero : 24 ≡ placeAfter b 0
+  pub place-zero : headerSize ≡ placeAfter b 0
   unfolding placeAfter
   place-zero = refl
 

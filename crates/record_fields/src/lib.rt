@@ -8,6 +8,14 @@ ghost use Rattle.record_fields.specs.Fields as F;
 // The bytes of the header: the first goal starts there.
 pub const HEADER: usize = 24;
 
+// Where the head set and the ground set stand in it.
+pub const HEAD: usize = 8;
+
+pub const GROUND: usize = 16;
+
+// The bytes of a goal before its text: its variable set and the length byte.
+const FIXED: usize = 9;
+
 fn wide(x: u8) -> u64
     ensures { λ r. ⌜ r ≡ x ⌝ }
     ensures { λ r. ⌜ r < 256 ⌝ }
@@ -91,13 +99,13 @@ pub fn pair_count(b: &[u8]) -> usize
 pub fn head_set(b: &[u8]) -> u64
     ensures { λ r. ⌜ r ≡ F.headSet (now (b .entry)) ⌝ }
 {
-    set_at(b, 8)
+    set_at(b, HEAD)
 }
 
 pub fn ground_set(b: &[u8]) -> u64
     ensures { λ r. ⌜ r ≡ F.groundSet (now (b .entry)) ⌝ }
 {
-    set_at(b, 16)
+    set_at(b, GROUND)
 }
 
 // Of the goal that starts at `at`: where its length byte stands.
@@ -113,7 +121,7 @@ pub fn text_at(b: &[u8], at: usize) -> usize
     requires { ⌜ at < 2 ^ 32 ⌝ }
     ensures { λ r. ⌜ r ≡ F.textAt (now (b .entry)) at ⌝ }
 {
-    at + 9
+    at + FIXED
 }
 
 // How many bytes its text has.
@@ -129,7 +137,7 @@ pub fn text_length_at(b: &[u8], at: usize) -> usize
 pub fn goal_end(b: &[u8], at: usize) -> usize
     requires { ⌜ at < 2 ^ 32 ⌝ }
     ensures { λ r. ⌜ r ≡ F.goalEnd (now (b .entry)) at ⌝ }
-    ensures { λ r. ⌜ r ≤ at + 264 ⌝ }
+    ensures { λ r. ⌜ r ≤ at + (F.fixedSize + 255) ⌝ }
 {
     text_at(b, at) + text_length_at(b, at)
 }
@@ -138,7 +146,7 @@ pub fn goal_end(b: &[u8], at: usize) -> usize
 pub fn place_after(b: &[u8], g: usize) -> usize
     requires { ⌜ g < 256 ⌝ }
     ensures { λ r. ⌜ r ≡ F.placeAfter (now (b .entry)) g ⌝ }
-    ensures { λ r. ⌜ r ≤ 24 + 264 * g ⌝ }
+    ensures { λ r. ⌜ r ≤ F.headerSize + (F.fixedSize + 255) * g ⌝ }
 {
     let mut at: usize = HEADER;
     let mut i: usize = 0;
@@ -151,9 +159,9 @@ pub fn place_after(b: &[u8], g: usize) -> usize
 
 // Where goal g starts.
 pub fn goal_place(b: &[u8], g: usize) -> usize
-    requires { ⌜ (1 ≤ g) × (g ≤ 32) ⌝ }
+    requires { ⌜ (1 ≤ g) × (g ≤ 256) ⌝ }
     ensures { λ r. ⌜ r ≡ F.goalPlace (now (b .entry)) g ⌝ }
-    ensures { λ r. ⌜ r ≤ 24 + 264 * 31 ⌝ }
+    ensures { λ r. ⌜ r ≤ F.headerSize + (F.fixedSize + 255) * 255 ⌝ }
 {
     place_after(b, g - 1)
 }

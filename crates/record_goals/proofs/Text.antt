@@ -11,7 +11,7 @@ use lib.Dec.{eqb}
 use borrow.Author.Tests.{eqb-true, eq-eqb}
 use Rattle.record_fields.specs.Fields.{byte}
 use Rattle.logic.proofs.Bools.{iff, and-l, and-r, and-i}
-use Rattle.record_rules.specs.Reading.{between, firstBad}
+use Rattle.record_rules.specs.Reading.{isTextByte, between, firstBad}
 use Rattle.record_rules.proofs.Text.{text-good, good-text}
 use Rattle.record_goals.specs.Text.{clean}
 
@@ -19,11 +19,11 @@ module _ (b : List ℕ) where
   ahead : (at end : ℕ) → at < end → end - at ≡ suc (end - (at + 1))
   ahead at end h = omega arith
 
-  pub bad-good : (at end : ℕ) → at < end → between 33 126 (byte b at) ≡ true → firstBad b at (end - at) ≡ firstBad b (at + 1) (end - (at + 1))
+  pub bad-good : (at end : ℕ) → at < end → isTextByte (byte b at) ≡ true → firstBad b at (end - at) ≡ firstBad b (at + 1) (end - (at + 1))
   unfolding firstBad
   bad-good at end h e = ap (λ (k : ℕ). firstBad b at k) (ahead at end h) ∙ ap (λ (t : Bool). cond t (firstBad b (suc at) (end - (at + 1))) at) e ∙ rw add-one
 
-  pub bad-here : (at end : ℕ) → at < end → between 33 126 (byte b at) ≡ false → firstBad b at (end - at) ≡ at
+  pub bad-here : (at end : ℕ) → at < end → isTextByte (byte b at) ≡ false → firstBad b at (end - at) ≡ at
   unfolding firstBad
   bad-here at end h e = ap (λ (k : ℕ). firstBad b at k) (ahead at end h) ∙ ap (λ (t : Bool). cond t (firstBad b (suc at) (end - (at + 1))) at) e
 
@@ -37,22 +37,22 @@ module _ (b : List ℕ) where
   unfolding clean
   clean-zero from = refl
 
-  pub clean-more : (from k : ℕ) → clean b from (k + 1) ≡ clean b from k && between 33 126 (byte b (from + k))
+  pub clean-more : (from k : ℕ) → clean b from (k + 1) ≡ clean b from k && isTextByte (byte b (from + k))
   unfolding clean
   clean-more from k = rw add-one
 
-  clean-out : (from k : ℕ) → clean b from k ≡ true → (i : ℕ) → i < k → between 33 126 (byte b (from + i)) ≡ true
+  clean-out : (from k : ℕ) → clean b from k ≡ true → (i : ℕ) → i < k → isTextByte (byte b (from + i)) ≡ true
   unfolding clean
   clean-out from zero e i h = absurd (not-suc-le-zero h)
   clean-out from (suc k) e i h =
-      ⊎-elim (λ q. ap (λ (x : ℕ). between 33 126 (byte b (from + x))) q ∙ and-r (clean b from k) (between 33 126 (byte b (from + k))) e)
-      (λ l. clean-out from k (and-l (clean b from k) (between 33 126 (byte b (from + k))) e) i l) (eq-or-lt-of-le (le-of-suc-le-suc h))
+      ⊎-elim (λ q. ap (λ (x : ℕ). isTextByte (byte b (from + x))) q ∙ and-r (clean b from k) (isTextByte (byte b (from + k))) e)
+      (λ l. clean-out from k (and-l (clean b from k) (isTextByte (byte b (from + k))) e) i l) (eq-or-lt-of-le (le-of-suc-le-suc h))
 
-  clean-in : (from k : ℕ) → ((i : ℕ) → i < k → between 33 126 (byte b (from + i)) ≡ true) → clean b from k ≡ true
+  clean-in : (from k : ℕ) → ((i : ℕ) → i < k → isTextByte (byte b (from + i)) ≡ true) → clean b from k ≡ true
   unfolding clean
   clean-in from zero h = refl
   clean-in from (suc k) h =
-      and-i (clean b from k) (between 33 126 (byte b (from + k))) (clean-in from k (λ i l. h i (le-step l))) (h k (lt-suc-self k))
+      and-i (clean b from k) (isTextByte (byte b (from + k))) (clean-in from k (λ i l. h i (le-step l))) (h k (lt-suc-self k))
 
   pub clean-test : (from k : ℕ) → clean b from k ≡ eqb (firstBad b from k) (from + k)
   clean-test from k =

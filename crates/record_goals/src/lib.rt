@@ -8,10 +8,15 @@ ghost use Rattle.record_rules.specs.Reading as R;
 ghost use Rattle.record_rules.specs.Fine as D;
 ghost use Rattle.record_goals.specs.Text as T;
 
+// The least and the greatest text byte.
+const LEAST: u8 = 33;
+
+const GREATEST: u8 = 126;
+
 fn text_byte(x: u8) -> bool
-    ensures { λ r. ⌜ r ≡ R.between 33 126 x ⌝ }
+    ensures { λ r. ⌜ r ≡ R.isTextByte x ⌝ }
 {
-    (33 <= x) & (x <= 126)
+    (LEAST <= x) & (x <= GREATEST)
 }
 
 // Whether each of the k bytes from `from` on is a text byte.

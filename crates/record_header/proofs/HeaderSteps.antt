@@ -5,8 +5,8 @@ use mathlib.Core.List.{List}
 use Prim.Native.Nat.{ℕ}
 use lib.Dec.{eqb, leb}
 use lib.ListN.{length}
-use Rattle.record_fields.specs.Fields.{mark, version, goalCount, varCount, headSet, groundSet}
-use Rattle.sets.specs.Sets.{within, subset}
+use Rattle.record_fields.specs.Fields.{headerSize, letters, mark, version, goalCount, varCount, headSet, groundSet}
+use Rattle.sets.specs.Sets.{goalLimit, variableLimit, within, subset}
 use Rattle.record_rules.specs.declared.Reading.{Reading}
 use Rattle.record_rules.specs.declared.Reading.the-variants.{Fine}
 use Rattle.record_rules.specs.Reading.{_must_else_place_, between, counts, header, versionOne}
@@ -14,8 +14,8 @@ use Rattle.record_rules.specs.Fine.{fine, countsFine, headerFine}
 use Rattle.record_rules.proofs.Fine.{fine-must}
 
 module _ (b : List ℕ) where
-  pub count-steps : (z m w n v : Bool) (r₁ r₂ r₃ r₄ r₅ : Reading) → z ≡ leb 24 (length b) → m ≡ eqb (mark b) 0x4C464A → w ≡ versionOne (version b)
-      → n ≡ between 1 32 (goalCount b) → v ≡ leb (varCount b) 64
+  pub count-steps : (z m w n v : Bool) (r₁ r₂ r₃ r₄ r₅ : Reading) → z ≡ leb headerSize (length b) → m ≡ eqb (mark b) letters → w ≡ versionOne (version b)
+      → n ≡ between 1 goalLimit (goalCount b) → v ≡ leb (varCount b) variableLimit
       → r₁ ≡ (Fine must z else 1 place length b)
       → r₂ ≡ (r₁ must m else 2 place 0)
       → r₃ ≡ (r₂ must w else 3 place 3)
@@ -36,8 +36,8 @@ module _ (b : List ℕ) where
 
   -- ---- by plain tests
 
-  pub counts-fine : (z m w n v : Bool) → z ≡ leb 24 (length b) → m ≡ eqb (mark b) 0x4C464A → w ≡ versionOne (version b)
-      → n ≡ between 1 32 (goalCount b) → v ≡ leb (varCount b) 64 → (((z && m) && w) && n) && v ≡ countsFine b
+  pub counts-fine : (z m w n v : Bool) → z ≡ leb headerSize (length b) → m ≡ eqb (mark b) letters → w ≡ versionOne (version b)
+      → n ≡ between 1 goalLimit (goalCount b) → v ≡ leb (varCount b) variableLimit → (((z && m) && w) && n) && v ≡ countsFine b
   unfolding countsFine counts fine
   counts-fine z m w n v ez em ew en ev = rw (ez, em, ew, en, ev, fine-must, fine-must, fine-must, fine-must, fine-must)
 
@@ -47,6 +47,6 @@ module _ (b : List ℕ) where
   header-fine v head ground c inside part ev eh eg ec ei ep = rw (ec, ei, ep, eh, eg, ev, fine-must, fine-must)
 
   -- a record too short for a header
-  pub header-short : leb 24 (length b) ≡ false → false ≡ headerFine b
+  pub header-short : leb headerSize (length b) ≡ false → false ≡ headerFine b
   unfolding headerFine header counts fine
   header-short e = rw (fine-must, fine-must, fine-must, fine-must, fine-must, fine-must, fine-must, e)

@@ -5,6 +5,7 @@ ghost use mathlib.Core.Path.{_≡_};
 ghost use Prim.Native.Nat.{_+_, _<_, _≤_, _^_};
 ghost use lib.Dec.{eqb, leb};
 ghost use lib.ListN.{length};
+ghost use Rattle.sets.specs.Sets.{goalLimit, variableLimit};
 ghost use Rattle.record_fields.specs.Fields as F;
 ghost use Rattle.record_rules.specs.Reading as R;
 ghost use Rattle.record_rules.specs.Fine as D;
@@ -16,27 +17,33 @@ pub fn size_fine(b: &[u8]) -> bool
     record_fields::HEADER <= b.len()
 }
 
+// The letters LFJ as a number.
+const LETTERS: u64 = 0x4C464A;
+
 fn mark_fine(b: &[u8]) -> bool
     ensures { λ r. ⌜ r ≡ eqb (F.mark (now (b .entry))) F.letters ⌝ }
 {
-    record_fields::number(b, 0, 3) == 0x4C464A
+    record_fields::number(b, 0, 3) == LETTERS
 }
+
+// The version that is read.
+const VERSION: u64 = 1;
 
 fn version_fine(b: &[u8]) -> bool
     ensures { λ r. ⌜ r ≡ R.versionOne (F.version (now (b .entry))) ⌝ }
 {
-    record_fields::number(b, 3, 2) == 1
+    record_fields::number(b, 3, 2) == VERSION
 }
 
 fn goals_fine(b: &[u8]) -> bool
-    ensures { λ r. ⌜ r ≡ R.between 1 32 (F.goalCount (now (b .entry))) ⌝ }
+    ensures { λ r. ⌜ r ≡ R.between 1 goalLimit (F.goalCount (now (b .entry))) ⌝ }
 {
     let n = record_fields::goal_count(b);
     (1 <= n) & (n <= Graph::MAX)
 }
 
 fn variables_fine(b: &[u8]) -> bool
-    ensures { λ r. ⌜ r ≡ leb (F.varCount (now (b .entry))) 64 ⌝ }
+    ensures { λ r. ⌜ r ≡ leb (F.varCount (now (b .entry))) variableLimit ⌝ }
 {
     record_fields::var_count(b) as usize <= sets::VARIABLES
 }

@@ -44,10 +44,20 @@ header isVersion b = ground b (head b (counts isVersion b))
 abbrev pub textLimit : ℕ
 textLimit = 40
 
--- 01: "that many text bytes, each 33 to 126": the first of the k bytes from a place on that is none, or the place after them
+-- 01: "that many text bytes, each 33 to 126"
+abbrev pub leastTextByte : ℕ
+leastTextByte = 33
+
+abbrev pub greatestTextByte : ℕ
+greatestTextByte = 126
+
+abbrev pub isTextByte : ℕ → Bool
+isTextByte x = between leastTextByte greatestTextByte x
+
+-- the first of the k bytes from a place on that is no text byte, or the place after them
 unfoldable pub firstBad : List ℕ → ℕ → ℕ → ℕ
 firstBad b at zero = at
-firstBad b at (suc k) = cond (between 33 126 (byte b at)) (firstBad b (suc at) k) at
+firstBad b at (suc k) = cond (isTextByte (byte b at)) (firstBad b (suc at) k) at
 
 abbrev pub badText : List ℕ → ℕ → ℕ
 badText b at = firstBad b (textAt b at) (textLengthAt b at)
@@ -102,8 +112,11 @@ unfoldable pub readingOf : (ℕ → Bool) → List ℕ → Reading
 readingOf isVersion b = ending b (goals b (goalCount b) (header isVersion b))
 
 -- 01: "version, 1"
+abbrev pub versionNumber : ℕ
+versionNumber = 1
+
 unfoldable pub versionOne : ℕ → Bool
-versionOne v = eqb v 1
+versionOne v = eqb v versionNumber
 
 unfoldable pub reading : List ℕ → Reading
 reading b = readingOf versionOne b

@@ -4,6 +4,7 @@ use libc::STDIN_FILENO;
 use libc::STDOUT_FILENO;
 use record_rules::Reading;
 ghost use Prim.Native.Nat.{_≤_};
+ghost use Rattle.sets.specs.Sets.{goalLimit};
 
 fn print_outcome(o: Reading) {
     match o {
@@ -21,7 +22,7 @@ fn print_outcome(o: Reading) {
 }
 
 fn print_text(text: &[u8], n: usize)
-    requires { ⌜ n ≤ 32 ⌝ }
+    requires { ⌜ n ≤ goalLimit ⌝ }
 {
     let answer = expression_reading::read_text(text, n);
     let outcome = answer.outcome;

@@ -19,7 +19,7 @@ use Rattle.record.proofs.WellFormed.{well-formed-fine}
 use Rattle.order.specs.Order.{before}
 use Rattle.expression.specs.Search.{Four}
 use Rattle.expression.specs.Form.{form}
-use Rattle.expression.specs.Text.{text}
+use Rattle.expression.specs.Text.{formLimit, text}
 use Rattle.expression.proofs.Search.{found-first}
 use Rattle.form_first_n.specs.declared.Four.{Four as Goals}
 use Rattle.form_first_n.specs.FirstN.{four}
@@ -45,19 +45,19 @@ module _ (b : List ℕ) where
   pub none-shown : {r : FormAnswer} (q : Goals) → goals r ≡ shown b → r ≡ W.NoForm q → noneLine (four q) ≡ formLine (shown b) (formText b)
   none-shown q g f = four-line (four q) (sym g ∙ ap goals f)
 
-  module _ (buf : List ℕ) (room : length buf ≡ 146) where
+  module _ (buf : List ℕ) (room : length buf ≡ formLimit) where
     -- a text is written
     fitting : (t : List ℕ) → formText b ≡ accepted t → formAnswer b buf ≡ accepted (length t)
     fitting t e = same-answer buf e ∙ sym (size-fits t buf refl (omega (arith, form-short b t e, room)))
 
     -- and a length with its text.
     pub text-shown : {new : List ℕ} {r : FormAnswer} {n : ℕ} → (outcome r ≡ formAnswer b buf) × ((goals r ≡ shown b) × (new ≡ formBuffer b buf))
-        → r ≡ W.Done n → (formWord ++ take n new ≡ formLine (shown b) (formText b)) × (length (take n new) ≤ 146) × (n ≤ length new)
+        → r ≡ W.Done n → (formWord ++ take n new ≡ formLine (shown b) (formText b)) × (length (take n new) ≤ formLimit) × (n ≤ length new)
     unfolding stored
     text-shown {new} {r} {n} (h, (g, k)) f = by (formText b) refl (ap outcome (sym f) ∙ h)
       where
         by : (o : Outcome (List ℕ)) → formText b ≡ o → accepted n ≡ formAnswer b buf
-            → (formWord ++ take n new ≡ formLine (shown b) (formText b)) × (length (take n new) ≤ 146) × (n ≤ length new)
+            → (formWord ++ take n new ≡ formLine (shown b) (formText b)) × (length (take n new) ≤ formLimit) × (n ≤ length new)
         by (refused x p) e a = absurd (told-apart (sym (a ∙ same-answer buf e)))
         by (accepted t) e a =
             let z : n ≡ length t = one-value (a ∙ fitting t e) in
@@ -78,7 +78,7 @@ module _ (b : List ℕ) where
     first-shown = shown-fine b (well-formed-fine b w)
 
     -- With room for every form it is not refused.
-    pub not-refused : (buf : List ℕ) → length buf ≡ 146 → {r : FormAnswer} {x : Refusal} → outcome r ≡ formAnswer b buf → goals r ≡ shown b
+    pub not-refused : (buf : List ℕ) → length buf ≡ formLimit → {r : FormAnswer} {x : Refusal} → outcome r ≡ formAnswer b buf → goals r ≡ shown b
         → r ≡ W.Refused x → ⊥
     not-refused buf room h g f =
         told-apart (ap outcome (sym f) ∙ h ∙ fitting buf room _ (has-text (sym first-shown ∙ sym g ∙ ap goals f)))

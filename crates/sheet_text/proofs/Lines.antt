@@ -15,7 +15,7 @@ use Rattle.record.specs.WellFormed.{WellFormed}
 use Rattle.record.proofs.Limits.{text-limit, goal-there, place-limit}
 use Rattle.expression.specs.Search.{Four}
 use Rattle.sheet_text.specs.Sheet.{goalsWord, formWord, noneWord, refusedWord, line, spaced, refusedText, goalLines, noneLine, goalText}
-use Rattle.sheet_text.specs.Parts.{countLine, goalLine}
+use Rattle.sheet_text.specs.Parts.{lineRoom, countLine, goalLine}
 
 -- a machine's number has at most 20 digits
 pub digits : (n : ℕ) → n < 2 ^ 64 → length (decimal n) ≤ 20
@@ -67,7 +67,7 @@ module _ (b : List ℕ) where
   goals-none at l = none at l
 
   -- the next goal's text lies inside the record
-  pub goal-inside : WellFormed b → (g p : ℕ) → p ≡ placeAfter b g → g < goalCount b → (goalEnd b p ≤ length b) × (p ≤ 2048)
+  pub goal-inside : WellFormed b → (g p : ℕ) → p ≡ placeAfter b g → g < goalCount b → (goalEnd b p ≤ length b) × (p ≤ lineRoom)
   goal-inside w g p e h =
       (subst (λ (x : ℕ). goalEnd b x ≤ length b) (sym e) (goal-there b w g h), omega (arith, e, place-limit b w g (omega arith), w .goals-to))
 

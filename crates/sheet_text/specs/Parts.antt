@@ -41,9 +41,12 @@ unfoldable pub restOf : Reading → List ℕ → List ℕ
 restOf Fine b = melRest (mel b)
 restOf (Refused r) b = []
 
--- all that stands in the array of lines
+-- all that stands in the array of lines, and a room that holds it
 unfoldable pub lines : List ℕ → List ℕ
 lines b = topOf (reading b) b ++ restOf (reading b) b
+
+abbrev pub lineRoom : ℕ
+lineRoom = 2048
 
 -- what is shown of the MEL text
 unfoldable pub shownOf : Reading → List ℕ → List ℕ

@@ -56,6 +56,10 @@ formLine (some q) o = noneLine q
 formLine none (accepted t) = formWord ++ t
 formLine none (refused k p) = []
 
+-- 01: "The program reads a record from standard input into a buffer of 4,096 bytes"
+abbrev pub inputRoom : ℕ
+inputRoom = 4096
+
 -- 01: "`mel` and the text, or `mel refused 12 L` where it passes 32,768 bytes, L being its length"
 abbrev pub melRoom : ℕ
 melRoom = 32768

@@ -74,7 +74,7 @@ fn put_goal(out: &mut [u8], at: usize, g: usize, shown: &[u8]) -> usize
 // Writes the line of each goal, which shows its text.
 fn put_goals(out: &mut [u8], at: usize, bytes: &[u8]) -> usize
     requires { ⌜ WellFormed (now bytes) ⌝ }
-    requires { ⌜ at + 2048 < 2 ^ 63 ⌝ }
+    requires { ⌜ at + R.lineRoom < 2 ^ 63 ⌝ }
     ensures { λ r. ⌜ Wrote (S.goalLines (S.goalText (now (bytes .entry))) (F.goalCount (now (bytes .entry)))) at (now (out .entry)) r (now (out .exit)) ⌝ }
 {
     let n = record_fields::goal_count(bytes);
@@ -106,7 +106,7 @@ fn put_none(out: &mut [u8], at: usize, q: Four) -> usize
 // Writes `form` and the text of the form, or that there is none.
 fn put_form(out: &mut [u8], at: usize, bytes: &[u8]) -> usize
     requires { ⌜ WellFormed (now bytes) ⌝ }
-    requires { ⌜ at + 2048 < 2 ^ 63 ⌝ }
+    requires { ⌜ at + R.lineRoom < 2 ^ 63 ⌝ }
     ensures { λ r. ⌜ Wrote (S.formLine (P.shown (now (bytes .entry))) (P.formText (now (bytes .entry)))) at (now (out .entry)) r (now (out .exit)) ⌝ }
 {
     let mut space = [0u8; form::LONGEST];
@@ -135,8 +135,8 @@ fn put_top(out: &mut [u8], bytes: &[u8]) -> usize
 // Writes the MEL text into `text` and what follows it into `lines`.
 fn put_mel(lines: &mut [u8], top: usize, bytes: &[u8], text: &mut [u8]) -> Parts
     requires { ⌜ WellFormed (now bytes) ⌝ }
-    requires { ⌜ length (now text) ≡ 32768 ⌝ }
-    requires { ⌜ top + 2048 < 2 ^ 63 ⌝ }
+    requires { ⌜ length (now text) ≡ S.melRoom ⌝ }
+    requires { ⌜ top + R.lineRoom < 2 ^ 63 ⌝ }
     ensures { λ r. ⌜ r .top ≡ top ⌝ }
     ensures { λ r. ⌜ r .mel ≡ length (R.melShown (M.mel (now (bytes .entry)))) ⌝ }
     ensures { λ r. ⌜ r .end ≤ top + 64 ⌝ }
@@ -158,8 +158,8 @@ fn put_mel(lines: &mut [u8], top: usize, bytes: &[u8], text: &mut [u8]) -> Parts
 
 // Writes the sheet of a record: the MEL text into `text`, everything else into `lines`.
 pub fn write(bytes: &[u8], lines: &mut [u8], text: &mut [u8]) -> Parts
-    requires { ⌜ 2048 ≤ length (now lines) ⌝ }
-    requires { ⌜ length (now text) ≡ 32768 ⌝ }
+    requires { ⌜ R.lineRoom ≤ length (now lines) ⌝ }
+    requires { ⌜ length (now text) ≡ S.melRoom ⌝ }
     ensures { λ r. ⌜ r ≡ R.partsOf (now (bytes .entry)) ⌝ }
     ensures { λ r. ⌜ R.Shows (now (bytes .entry)) (now (lines .exit)) (now (text .exit)) r ⌝ }
     ensures { λ r. ⌜ Wrote (R.lines (now (bytes .entry))) 0 (now (lines .entry)) (r .end) (now (lines .exit)) ⌝ }
@@ -184,7 +184,7 @@ pub fn write(bytes: &[u8], lines: &mut [u8], text: &mut [u8]) -> Parts
 
 // Prints the sheet of a record on standard output: the three parts that `write` names. `text` is the room for the MEL text.
 fn print(bytes: &[u8], text: &mut [u8])
-    requires { ⌜ length (now text) ≡ 32768 ⌝ }
+    requires { ⌜ length (now text) ≡ S.melRoom ⌝ }
     ensures { λ _. ⌜ now (text .exit) ≡ M.melBuffer (now (bytes .entry)) (now (text .entry)) ⌝ }
 {
     let mut space = [0u8; LINES];
@@ -200,8 +200,8 @@ fn print(bytes: &[u8], text: &mut [u8])
 
 // Reads a record from the file `fd` into `input`, until the array is full or the file ends, and prints its sheet. Answers the record's length.
 pub fn run(fd: i32, input: &mut [u8], text: &mut [u8]) -> usize
-    requires { ⌜ length (now input) ≡ 4096 ⌝ }
-    requires { ⌜ length (now text) ≡ 32768 ⌝ }
+    requires { ⌜ length (now input) ≡ S.inputRoom ⌝ }
+    requires { ⌜ length (now text) ≡ S.melRoom ⌝ }
     ensures { λ r. ⌜ Counts r (now (input .exit)) ⌝ }
     ensures { λ r. ⌜ now (text .exit) ≡ M.melBuffer (take r (now (input .exit))) (now (text .entry)) ⌝ }
 {

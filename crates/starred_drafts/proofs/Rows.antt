@@ -5,6 +5,7 @@ use mathlib.Core.List.{List, _++_}
 use Prim.Native.Nat.{ℕ, _≤_}
 use native.Mathlib.Omega.{arith}
 use lib.ListN.{length, drop}
+use Rattle.sets.specs.Sets.{goalLimit}
 use Rattle.graph.specs.Graph.{ahead, rowsOf}
 use Rattle.graph.proofs.Rows.{rows-say}
 use Rattle.record_rules.specs.declared.Reading.the-variants.{Fine}
@@ -29,7 +30,7 @@ use Rattle.starred_drafts.specs.Drafts.{annotates, melOf, room}
 
 module _ (b : List ℕ) (fine : reading b ≡ Fine) where
   -- of a record with the waits W
-  pub formed : (W : ℕ → ℕ → Bool) → rowsOf 32 (goalCount b) (waits b) ≡ rowsOf 32 (goalCount b) W →
+  pub formed : (W : ℕ → ℕ → Bool) → rowsOf goalLimit (goalCount b) (waits b) ≡ rowsOf goalLimit (goalCount b) W →
       let R = closed W (goalCount b) in
       (formText b ≡ orThirteen (firstN R (goalCount b)) (text (formAny R (goalCount b)))) × (shown b ≡ firstN R (goalCount b))
   unfolding before
@@ -43,8 +44,8 @@ module _ (b : List ℕ) (fine : reading b ≡ Fine) where
       waits-agree : (i j : ℕ) → Goals (goalCount b) i → Goals (goalCount b) j → W i j ≡ waits b i j
       waits-agree i j p q =
           let h = fine-well-formed b fine .goals-to in
-          sym (rows-say 32 (goalCount b) W i j h (p .0) (p .1) (q .0) (q .1)) ∙ ap (λ (r : List ℕ). ahead r i j) (sym e)
-          ∙ rows-say 32 (goalCount b) (waits b) i j h (p .0) (p .1) (q .0) (q .1)
+          sym (rows-say goalLimit (goalCount b) W i j h (p .0) (p .1) (q .0) (q .1)) ∙ ap (λ (r : List ℕ). ahead r i j) (sym e)
+          ∙ rows-say goalLimit (goalCount b) (waits b) i j h (p .0) (p .1) (q .0) (q .1)
 
       agree : (i j : ℕ) → Goals (goalCount b) i → Goals (goalCount b) j → closed W (goalCount b) i j ≡ before b i j
       agree i j p q = closed-agree W (waits b) (goalCount b) waits-agree (goalCount b) (omega arith) i j p q

@@ -9,6 +9,7 @@ use Prim.Native.Char.{code}
 use Prim.Native.String.{String, len, charAt}
 use lib.Dec.{eqb}
 use lib.ListN.{length, drop, replicate}
+use Rattle.sets.specs.Sets.{goalLimit}
 use Rattle.graph.specs.Graph.{rowsOf}
 use Rattle.record_fields.specs.Fields.{goalCount}
 use Rattle.record_rules.specs.declared.Reading.the-variants.{Fine}
@@ -58,7 +59,7 @@ asked ((a then c) ∷ l) i j = (eqb i a && eqb j c) || asked l i j
 -- the record b is accepted, and W are its waits
 pub record Has (b : List ℕ) (W : ℕ → ℕ → Bool) : Type 0 where
   pub fine : reading b ≡ Fine
-  pub rows : rowsOf 32 (goalCount b) (waits b) ≡ rowsOf 32 (goalCount b) W
+  pub rows : rowsOf goalLimit (goalCount b) (waits b) ≡ rowsOf goalLimit (goalCount b) W
 
 -- the variables of goal g: the wait k gives variable k to its two goals
 abbrev held : ℕ → ℕ → List Wait → ℕ

@@ -24,7 +24,7 @@ use Rattle.expression_grammar.specs.Grammar.{Text, BadAt}
 use Rattle.expression_grammar.specs.Reader.{Scan, reads, stops, read}
 use Rattle.expression_grammar.specs.Numbers.{misuse}
 use Rattle.record_rules.specs.Outcome.{Outcome, refused, accepted}
-use Rattle.expression_grammar.specs.TextRules.{numbered, decided, readText}
+use Rattle.expression_grammar.specs.TextRules.{expressionLimit, openLimit, numbered, decided, readText}
 use Rattle.expression_grammar.specs.Check.{Verdict, same, differs, firstDiffer, verdict, judged, checked}
 use Rattle.expression_grammar.proofs.Theorems.{accepts, refuses, read-text, read-16, read-17}
 use Rattle.expression_grammar.proofs.Goals.{misuse-none}
@@ -55,11 +55,11 @@ answers-differ : (c c′ : Case) → answer c ≡ answer c′ → c ≡ c′
 answers-differ c c′ h = sym (case-of-answer c) ∙ ap case-of h ∙ case-of-answer c′
 
 -- ---- a text that has not 1 to 512 bytes
-too-short-or-long : (t : List ℕ) → (1 ≤ length t → length t ≤ 512 → ⊥) → (t ≡ []) ⊎ (512 < length t)
+too-short-or-long : (t : List ℕ) → (1 ≤ length t → length t ≤ expressionLimit → ⊥) → (t ≡ []) ⊎ (expressionLimit < length t)
 too-short-or-long [] h = inl refl
-too-short-or-long (x ∷ t) h = dite (decLt 512 (length (x ∷ t))) inr (λ l. absurd (h (omega arith) (omega arith)))
+too-short-or-long (x ∷ t) h = dite (decLt expressionLimit (length (x ∷ t))) inr (λ l. absurd (h (omega arith) (omega arith)))
 
-not-sized : (t : List ℕ) → (t ≡ []) ⊎ (512 < length t) → 1 ≤ length t → length t ≤ 512 → ⊥
+not-sized : (t : List ℕ) → (t ≡ []) ⊎ (expressionLimit < length t) → 1 ≤ length t → length t ≤ expressionLimit → ⊥
 not-sized t (inl e) lo hi = omega (arith, ap length e)
 not-sized t (inr l) lo hi = omega arith
 
@@ -86,28 +86,28 @@ module _ (b t : List ℕ) where
   abbrev Answered : Outcome Verdict → Type 0
   Answered r = (c : Case) × Applies b t c × (r ≡ answer c)
 
-  compared : Sized t → (e : Expr) → Text 32 t e → UsesOnce n e → (o : Option (ℕ × ℕ)) → firstDiffer n R (E.before e) ≡ o → Answered (accepted (verdict o))
+  compared : Sized t → (e : Expr) → Text openLimit t e → UsesOnce n e → (o : Option (ℕ × ℕ)) → firstDiffer n R (E.before e) ≡ o → Answered (accepted (verdict o))
   compared z e j u none h = (says-same, (z, (e, j, record { uses = u; order = order-is b e u .0 (same-order n R (E.before e) .0 h) })), refl)
   compared z e s u (some (i, j)) h = (says-differs i j, (z, (e, s, u, first-is b e u i j .0 h)), refl)
 
-  used : Sized t → (e : Expr) → Text 32 t e → (o : Option ℕ) → misuse n t e ≡ o → Answered (judged n R (numbered e o))
-  used z e j none h = compared z e j (misuse-none 32 n t e j .0 h) (firstDiffer n R (E.before e)) refl
+  used : Sized t → (e : Expr) → Text openLimit t e → (o : Option ℕ) → misuse n t e ≡ o → Answered (judged n R (numbered e o))
+  used z e j none h = compared z e j (misuse-none openLimit n t e j .0 h) (firstDiffer n R (E.before e)) refl
   used z e j (some p) h = (refused-17 p, (z, (e, j, misuse-is n j p .0 h)), refl)
 
-  was-read : Sized t → (r : Scan) → read 32 t ≡ r → Answered (judged n R (decided n t r))
-  was-read z (stops p) h = (refused-16 p, (z, refuses 32 t p .0 h), refl)
-  was-read z (reads e) h = let j = accepts 32 t e .0 h in used z e j (misuse n t e) refl
+  was-read : Sized t → (r : Scan) → read openLimit t ≡ r → Answered (judged n R (decided n t r))
+  was-read z (stops p) h = (refused-16 p, (z, refuses openLimit t p .0 h), refl)
+  was-read z (reads e) h = let j = accepts openLimit t e .0 h in used z e j (misuse n t e) refl
 
   answered : Answered (checked n R t)
   unfolding checked
   answered =
       dite (decLe 1 (length t))
-      (λ lo. dite (decLe (length t) 512)
-      (λ hi. subst (λ r. Answered (judged n R r)) (sym (sized n t lo hi)) (was-read (lo, hi) (read 32 t) refl))
+      (λ lo. dite (decLe (length t) expressionLimit)
+      (λ hi. subst (λ r. Answered (judged n R r)) (sym (sized n t lo hi)) (was-read (lo, hi) (read openLimit t) refl))
       (λ out. not-so-long (λ _ hi. out hi)))
       (λ out. not-so-long (λ lo _. out lo))
     where
-      not-so-long : (1 ≤ length t → length t ≤ 512 → ⊥) → Answered (judged n R (readText n t))
+      not-so-long : (1 ≤ length t → length t ≤ expressionLimit → ⊥) → Answered (judged n R (readText n t))
       not-so-long h = subst (λ r. Answered (judged n R r)) (sym (unsized n t h)) (refused-15, too-short-or-long t h, refl)
 
 -- ---- T12. For a well-formed record and any text: each answer is given exactly if its case applies; one case applies, and only one.
@@ -124,11 +124,11 @@ check-says b t w =
 -- Its equivalences, one by one.
 module _ (b t : List ℕ) (w : WellFormed b) where
   -- 15 exactly if the text is empty or above 512 bytes;
-  pub check-15 : (check b t ≡ refused 15 0) ↔ ((t ≡ []) ⊎ (512 < length t))
+  pub check-15 : (check b t ≡ refused 15 0) ↔ ((t ≡ []) ⊎ (expressionLimit < length t))
   check-15 = check-says b t w .exactly refused-15
 
   -- 16 exactly if it is not, and p is its bad place;
-  pub check-16 : (p : ℕ) → (check b t ≡ refused 16 p) ↔ (Sized t × BadAt 32 t p)
+  pub check-16 : (p : ℕ) → (check b t ≡ refused 16 p) ↔ (Sized t × BadAt openLimit t p)
   check-16 p = check-says b t w .exactly (refused-16 p)
 
   -- 17 exactly if it is in the grammar, and p is the place of its leftmost number above n or met before, or it has none, a goal is missing and p is its length;
@@ -136,12 +136,12 @@ module _ (b t : List ℕ) (w : WellFormed b) where
   check-17 p = check-says b t w .exactly (refused-17 p)
 
   -- "same" exactly if it is the text of an expression that uses each goal exactly once and has the record's order;
-  pub check-same : (check b t ≡ accepted same) ↔ (Sized t × ((e : Expr) × Text 32 t e × Expresses b e))
+  pub check-same : (check b t ≡ accepted same) ↔ (Sized t × ((e : Expr) × Text openLimit t e × Expresses b e))
   check-same = check-says b t w .exactly says-same
 
   -- "differs" exactly if it is the text of an expression that uses each goal exactly once, and i, j is the first pair that just one of the two orders has.
   pub check-differs : (i j : ℕ)
-      → (check b t ≡ accepted (differs i j)) ↔ (Sized t × ((e : Expr) × Text 32 t e × UsesOnce (goalCount b) e × FirstDifference b e i j))
+      → (check b t ≡ accepted (differs i j)) ↔ (Sized t × ((e : Expr) × Text openLimit t e × UsesOnce (goalCount b) e × FirstDifference b e i j))
   check-differs i j = check-says b t w .exactly (says-differs i j)
 
 -- The operation promises `checkOutcome r ≡ check b t` of its answer r: so its answer says the same.

@@ -14,6 +14,7 @@ use Prim.Native.Nat.{ℕ, _≤_, _<_}
 use native.Mathlib.Omega.{arith}
 use lib.ListN.{length, drop}
 use denote.Ref.{RefT}
+use Rattle.sets.specs.Sets.{goalLimit}
 use Rattle.graph.specs.Graph.{ahead, edgeless, graphOf}
 use Rattle.graph.specs.declared.Graph.{Graph}
 use Rattle.graph.proofs.Rows.{rows-say}
@@ -130,7 +131,7 @@ module _ (b : List ℕ) (w : WellFormed b) where
   pub order-chains : (i j : ℕ) → Goals n i → Goals n j → (ahead (orderGraph b .rows) i j ≡ true) ↔ O.Before b i j
   order-chains i j p q =
       let e : ahead (orderGraph b .rows) i j ≡ R i j =
-      ap (λ (g : Graph). ahead (g .rows) i j) order-graph ∙ rows-say 32 n R i j (w .goals-to) (p .0) (p .1) (q .0) (q .1) in
+      ap (λ (g : Graph). ahead (g .rows) i j) order-graph ∙ rows-say goalLimit n R i j (w .goals-to) (p .0) (p .1) (q .0) (q .1) in
       (λ t. before-is b i j .0 (sym e ∙ t), λ c. e ∙ before-is b i j .1 c)
 
   -- ---- Document 003: figure 1 answers true exactly if the form operation does not answer 13,

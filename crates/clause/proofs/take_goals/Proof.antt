@@ -12,16 +12,16 @@ use Rattle.clause.proofs.take_goals.Statement.{statement}
 use Rattle.clause.proofs.take_goals.Tie as tie
 
 abbrev Inv-loop : tie.InvT-loop
-Inv-loop b n sets₀ grounds₀ ground at₀ g₀ sets grounds at g = (g ≤ n) × (at ≡ F.placeAfter b g) × (sets ≡ setsAfter 32 b g) × (grounds ≡ groundsAfter 32 b g)
+Inv-loop b n sets₀ grounds₀ ground fixed₀ texts₀ g₀ sets grounds fixed texts g = (g ≤ n) × (fixed + texts ≡ F.placeAfter b g) × (sets ≡ setsAfter 32 b g) × (grounds ≡ groundsAfter 32 b g)
 
 abbrev μ-loop : tie.MeasureT-loop
-μ-loop b n sets₀ grounds₀ ground at₀ g₀ sets grounds at g = n - g
+μ-loop b n sets₀ grounds₀ ground fixed₀ texts₀ g₀ sets grounds fixed texts g = n - g
 
 -- the goal is there
 there : (c : tie.In-loop Inv-loop μ-loop)
     → let l = c .before .loop in
     let b = now (c .before .before .before .before .args .b) in
-    (l .g < 32) × (l .at < 2000) × (F.goalEnd b (l .at) ≤ length b)
+    (l .g < 32) × (l .fixed + l .texts < 2000) × (F.goalEnd b (l .fixed + l .texts) ≤ length b)
 there c =
     let l = c .before .loop in
     let s = c .before .before .before .before in
@@ -33,14 +33,17 @@ there c =
     let limit = place-limit b w (l .g) (omega arith) in
     (omega arith, omega (arith, l .inv .1), subst (λ (x : ℕ). F.goalEnd b x ≤ length b) (sym (l .inv .1)) (goal-there b w (l .g) m))
 
-ground-set-requires : tie.Need-ground-set-requires Inv-loop μ-loop
-ground-set-requires c κs = search needs
+whole-set-requires : tie.Need-whole-set-requires Inv-loop μ-loop
+whole-set-requires c κs = c .before .pre .0 .header-whole
 
 loop-holds : tie.Need-loop-holds Inv-loop μ-loop
 loop-holds c = let s = c .before .before in (omega arith, place-zero _, s .pre .2 ∙ sets-zero 32 _, s .pre .3 ∙ grounds-zero 32 _)
 
-whole-set-requires : tie.Need-whole-set-requires Inv-loop μ-loop
-whole-set-requires c κs = omega (arith, there c)
+add-at : tie.Need-add-at Inv-loop μ-loop
+add-at c = omega (arith, there c)
+
+whole-set-requires-2 : tie.Need-whole-set-requires-2 Inv-loop μ-loop
+whole-set-requires-2 c κs = omega (arith, there c)
 
 mul-sets : tie.Need-mul-sets Inv-loop μ-loop
 mul-sets c = omega (arith, there (c .before))
@@ -66,8 +69,8 @@ size-of-requires c κs = search needs
 text-at-requires : tie.Need-text-at-requires Inv-loop μ-loop
 text-at-requires c κs = omega (arith, there (c .before .before .before .before))
 
-add-at : tie.Need-add-at Inv-loop μ-loop
-add-at c = omega (arith, there (c .before .before .before .before .before))
+add-texts : tie.Need-add-texts Inv-loop μ-loop
+add-texts c = omega (arith, there (c .before .before .before .before .before))
 
 add-g : tie.Need-add-g Inv-loop μ-loop
 add-g c = omega (arith, there (c .before .before .before .before .before))
@@ -80,12 +83,14 @@ loop-again c =
     let i = c .before .before .before .before .before in
     let l = i .before .loop in
     let b = now (i .before .before .before .before .args .b) in
+    let at = l .fixed + l .texts in
     let h = there i .0 in
-    let text = c .before .size-of .ensures .0 ∙ ap (F.byte b) (c .before .before .before .length-at .ensures) in (
+    let text = c .before .size-of .ensures .0 ∙ ap (F.byte b) (c .before .before .before .length-at .ensures) in
+    let end : c .text-at .result + (l .texts + c .before .size-of .result) ≡ F.goalEnd b at = omega (arith, c .text-at .ensures, text) in (
       omega arith,
-      ap₂ _+_ (c .text-at .ensures) text ∙ place-turn b (l .g) (l .at) (l .inv .1),
-      sets-more 32 b (l .g) (l .at) (l .sets) _ h (l .inv .2) (l .inv .1) (c .before .before .before .before .whole-set .ensures),
-      grounds-more 32 b (l .g) (l .grounds) _ h (l .inv .3) (i .before .before .ground-set .ensures),
+      end ∙ place-turn b (l .g) at (l .inv .1),
+      sets-more 32 b (l .g) at (l .sets) _ h (l .inv .2) (l .inv .1) (c .before .before .before .before .whole-set2 .ensures),
+      grounds-more 32 b (l .g) (l .grounds) _ h (l .inv .3) (i .before .before .whole-set .ensures),
     )
 
 returns : tie.Need-returns Inv-loop μ-loop
@@ -94,7 +99,7 @@ returns c =
     let s = c .before .before .before .before in
     let b = now (s .args .b) in
     let e : l .g ≡ F.goalCount b = omega (arith, s .pre .1) in
-    (l .inv .1 ∙ ap (F.placeAfter b) e, (l .inv .2 ∙ sets-all 32 b (l .g) e, l .inv .3 ∙ grounds-all 32 b (l .g) e))
+    (l .inv .2 ∙ sets-all 32 b (l .g) e, l .inv .3 ∙ grounds-all 32 b (l .g) e)
 
 pub take-goals-spec : {M : Type 1} → statement M
 take-goals-spec =
@@ -102,9 +107,10 @@ take-goals-spec =
     (tie.spec
     Inv-loop
     μ-loop
-    ground-set-requires
-    loop-holds
     whole-set-requires
+    loop-holds
+    add-at
+    whole-set-requires-2
     mul-sets
     element-write-sets
     mul-grounds
@@ -113,7 +119,7 @@ take-goals-spec =
     shared-slice-read-size-of
     size-of-requires
     text-at-requires
-    add-at
+    add-texts
     add-g
     loop-less
     loop-again

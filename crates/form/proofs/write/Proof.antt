@@ -1,72 +1,86 @@
-use mathlib.Core.Path.{_≡_, sym, _∙_}
-use Rattle.record_rules.specs.declared.Reading.the-variants.{Fine}
-use Rattle.record_rules.specs.Reading.{reading}
-use Rattle.record.proofs.WellFormed.{fine-well-formed}
-use Rattle.order.specs.Order.{order}
-use Rattle.clause.proofs.Decoded.{clause-few}
-use Rattle.order.proofs.Decoded.{clause-order}
-use Rattle.form.proofs.Orders.{graph-asks, graph-text, graph-shown}
+use mathlib.Core.Path.{sym, ap, _∙_}
+use mathlib.Core.List.{List}
+use Prim.Native.Nat.{ℕ, _≤_}
+use native.Mathlib.Omega.{arith}
+use lib.ListN.{length, take}
+use lib.Seq.{length-take-le}
+use Rattle.record_rules.specs.Outcome.{accepted}
 use Rattle.record_rules.proofs.Outcomes.{same-answer, same-buffer}
-use Rattle.form.proofs.Outcomes.{form-refused, shown-refused}
+use Rattle.form.specs.Form.{outcome, goals}
+use Rattle.form.proofs.Outcomes.{held-size, held-text, held-refused}
+use Rattle.form.proofs.Theorems.{form-held}
 use borrow.Author.Needs.{needs}
 use Rattle.form.proofs.write.Statement.{statement}
 use Rattle.form.proofs.write.Tie as tie
 
-read-requires : tie.Need-read-requires
-read-requires c κs = search needs
+-- the form is in the array, and no longer than it
+held : (c : tie.After-size) → c .size .given .0 .0 ≤ length (c .before .before .before .put .last .1 .0)
+held c =
+    let r = c .before .before .before .put .ensures in
+    omega (arith, held-size _ _ (form-held _) (sym (ap outcome (c .size .given .1)) ∙ r .0), ap length (r .1 .1))
 
-enum-known-s : tie.Need-enum-known-s
-enum-known-s c = search needs
+slice-aggregate-put : tie.Need-slice-aggregate-put
+slice-aggregate-put c = search needs
 
-enum-told : tie.Need-enum-told
-enum-told c = search needs
+put-requires : tie.Need-put-requires
+put-requires c κs = search needs
 
--- the record was read, and its order found
-fine : (c : tie.After-enum-told) → reading (c .before .before .before .before .before .args .b .now) ≡ Fine
-fine c = sym (c .before .before .read .ensures) ∙ c .enum-told .given .1
+enum-known-size : tie.Need-enum-known-size
+enum-known-size c = search needs
 
-found : (c : tie.After-order-of) → c .order-of .result ≡ order (c .before .before .before .before .before .before .before .before .before .before .before .args .b .now)
-found c =
-    let d = c .before .before .before .before .before in
-    clause-order _ (fine-well-formed _ (fine (d .before))) _ (d .decode .ensures) (c .order-of .ensures)
+array-share-prefix-space : tie.Need-array-share-prefix-space
+array-share-prefix-space c = held (c .before)
 
-decode-requires : tie.Need-decode-requires
-decode-requires c κs = fine-well-formed _ (fine c)
+slice-aggregate-copy : tie.Need-slice-aggregate-copy
+slice-aggregate-copy c = sym (length-take-le _ _ (held (c .before .before)))
 
-order-of-requires : tie.Need-order-of-requires
-order-of-requires c κs = let d = c .before .before .before .before in clause-few _ (fine-well-formed _ (fine (d .before))) _ (d .decode .ensures)
+copy-requires : tie.Need-copy-requires
+copy-requires c κs = search needs
 
-write-rows-requires : tie.Need-write-rows-requires
-write-rows-requires c κs =
-    let o = c .before .before .before in
-    graph-asks _ (fine (o .before .before .before .before .before .before)) _ (found o)
+enum-known-q : tie.Need-enum-known-q
+enum-known-q c = search needs
 
-returns : tie.Need-returns
-returns c =
-    let e = sym (c .before .before .before .read .ensures) ∙ c .before .s .given .1 in
-    (sym (same-answer _ (form-refused _ _ e)), (sym (shown-refused _ _ e), sym (same-buffer _ (form-refused _ _ e))))
+enum-known-r : tie.Need-enum-known-r
+enum-known-r c = search needs
 
 same-length : tie.Need-same-length
 same-length c = search needs
 
+returns : tie.Need-returns
+returns c =
+    let d = c .before .before .before .before .before .before in
+    let p = d .before .before .before .put .ensures in
+    let w = c .before .before .copy .ensures in
+    let e = ap (λ (l : List ℕ). accepted (take (d .size .given .0 .0) l)) (p .1 .1) ∙ held-text _ _ (form-held _) (sym (ap outcome (d .size .given .1)) ∙ p .0) in
+    (w .0 ∙ same-answer _ e, (w .1 .0 ∙ sym (ap goals (d .size .given .1)) ∙ p .1 .0, w .1 .1 ∙ same-buffer _ e))
+
 returns-2 : tie.Need-returns-2
 returns-2 c =
-    let o = c .before .before .before .before .before .before in
-    let f = fine (o .before .before .before .before .before .before) in
-    let r = c .before .before .write-rows .ensures in
-    let e = graph-text _ f _ (found o) in
-    (r .0 ∙ same-answer _ e, (r .1 .0 ∙ graph-shown _ f _ (found o), r .1 .1 ∙ same-buffer _ e))
+    let g = c .before .q .given .1 in
+    let p = c .before .before .before .before .put .ensures in
+    let e = held-refused _ _ (form-held _) (sym (ap outcome g) ∙ p .0) in
+    (same-answer _ e, (sym (ap goals g) ∙ p .1 .0, same-buffer _ e))
+
+returns-3 : tie.Need-returns-3
+returns-3 c =
+    let g = c .before .r .given .1 in
+    let p = c .before .before .before .before .put .ensures in
+    let e = held-refused _ _ (form-held _) (sym (ap outcome g) ∙ p .0) in
+    (same-answer _ e, (sym (ap goals g) ∙ p .1 .0, same-buffer _ e))
 
 pub write-spec : {M : Type 1} → statement M
 write-spec =
     tie.close
     (tie.spec
-    read-requires
-    enum-known-s
-    enum-told
-    decode-requires
-    order-of-requires
-    write-rows-requires
-    returns
+    slice-aggregate-put
+    put-requires
+    enum-known-size
+    array-share-prefix-space
+    slice-aggregate-copy
+    copy-requires
+    enum-known-q
+    enum-known-r
     same-length
-    returns-2)
+    returns
+    returns-2
+    returns-3)

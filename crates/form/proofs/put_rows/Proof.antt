@@ -1,13 +1,10 @@
-use borrow.Author.Needs.{needs}
 use native.Mathlib.Omega.{arith}
 use mathlib.Core.Path.{_≡_, sym, ap, _∙_}
 use mathlib.Core.Bool.{false}
 use mathlib.Core.Option.{none}
 use Prim.Native.Nat.{_+_, _^_, _≤_, _<_}
 use lib.ListN.{length}
-use lib.Seq.{length-take-le}
-use Rattle.buffer.proofs.Writing.{kept, read-back}
-use Rattle.record_rules.specs.Outcome.{accepted}
+use Rattle.buffer.proofs.Writing.{recast}
 use Rattle.graph.specs.Graph.{ahead}
 use Rattle.expression.specs.Arrange.{formAny}
 use Rattle.expression.specs.Search.{firstN}
@@ -15,17 +12,11 @@ use Rattle.expression.specs.Text.{text}
 use Rattle.form_first_n.specs.FirstN.{found}
 use Rattle.form_split.specs.Split.{Ordered, formText}
 use Rattle.form.proofs.Rows.{ordered, room, text-is, text-short}
-use Rattle.record_rules.proofs.Outcomes.{same-answer, same-buffer}
+use Rattle.record_rules.proofs.Outcomes.{size-fits, buffer-fits, same-answer, same-buffer}
 use Rattle.form.proofs.Outcomes.{thirteen-none, thirteen-some}
 use borrow.Author.Needs.{needs}
-use Rattle.form.proofs.write_rows.Statement.{statement}
-use Rattle.form.proofs.write_rows.Tie as tie
-use Rattle.form.proofs.write_rows.Reads as reads
-use Rattle.form.proofs.write_rows.Lts as lts
-use Rattle.form_first_n.proofs.first_n.Reads as first-n-reads
-use Rattle.graph.proofs.transposed.Reads as transposed-reads
-use Rattle.sets.proofs.below32.Reads as below32-reads
-use Rattle.form_split.proofs.put_form.Reads as put-form-reads
+use Rattle.form.proofs.put_rows.Statement.{statement}
+use Rattle.form.proofs.put_rows.Tie as tie
 
 -- the search found nothing
 none-first : (c : tie.After-below32) → firstN (ahead (c .before .before .before .before .before .before .before .args .rows .now)) (c .before .before .before .before .before .before .before .args .n) ≡ none
@@ -46,10 +37,10 @@ the-text c =
     let s = c .before .before .before .before .before .before .before in
     text-is _ _ _ _ (s .pre .0) (s .pre .1) (s .pre .2) (none-first c) (c .before .before .before .before .before .transposed .ensures) (c .below32 .ensures)
 
-short : (c : tie.After-below32) → length (text (formAny (ahead (c .before .before .before .before .before .before .before .args .rows .now)) (c .before .before .before .before .before .before .before .args .n))) ≤ 146
-short c =
+fits : (c : tie.After-below32) → length (text (formAny (ahead (c .before .before .before .before .before .before .before .args .rows .now)) (c .before .before .before .before .before .before .before .args .n))) ≤ length (c .before .before .before .before .before .before .before .args .space .now)
+fits c =
     let s = c .before .before .before .before .before .before .before in
-    text-short _ _ _ _ (s .pre .0) (s .pre .1) (s .pre .2) (none-first c) (c .before .before .before .before .before .transposed .ensures) (c .below32 .ensures)
+    omega (arith, text-short _ _ _ _ (s .pre .0) (s .pre .1) (s .pre .2) (none-first c) (c .before .before .before .before .before .transposed .ensures) (c .below32 .ensures), s .pre .4)
 
 transposed-requires : tie.Need-transposed-requires
 transposed-requires c κs = search needs
@@ -66,24 +57,8 @@ enum-told c = search needs
 below32-requires : tie.Need-below32-requires
 below32-requires c κs = search needs
 
-slice-aggregate-put-form : tie.Need-slice-aggregate-put-form
-slice-aggregate-put-form c = search needs
-
 put-form-requires : tie.Need-put-form-requires
 put-form-requires c κs = asks (c .before .before)
-
--- the text's length, which the array holds
-size : (c : tie.After-put-form) → c .put-form .result ≤ 146
-size c = let d = c .before .before .before in omega (arith, c .put-form .ensures .place, ap length (the-text d), short d)
-
-array-share-prefix-space : tie.Need-array-share-prefix-space
-array-share-prefix-space c = omega (arith, size (c .before), kept (c .before .put-form .ensures))
-
-slice-aggregate-copy : tie.Need-slice-aggregate-copy
-slice-aggregate-copy c = sym (length-take-le _ _ (omega (arith, size (c .before .before), kept (c .before .before .put-form .ensures))))
-
-copy-requires : tie.Need-copy-requires
-copy-requires c κs = search needs
 
 returns : tie.Need-returns
 returns c =
@@ -95,16 +70,15 @@ same-length c = search needs
 
 returns-2 : tie.Need-returns-2
 returns-2 c =
-    let p = c .before .before .before .before .before .before in
+    let p = c .before .before in
     let d = p .before .before .before in
-    let w = p .put-form .ensures in
-    let t = read-back w (omega (arith, size p, w .place)) ∙ the-text d in
-    let e = ap accepted t ∙ sym (thirteen-none _ (none-first d)) in
-    let r = c .before .before .copy .ensures in
-    (r .0 ∙ same-answer _ e, (r .1 .0 ∙ sym (none-first d), r .1 .1 ∙ same-buffer _ e))
+    let w = recast (the-text d) (p .put-form .ensures) in
+    let h = fits d in
+    let e = sym (thirteen-none _ (none-first d)) in
+    (size-fits _ _ (omega (arith, w .place)) h ∙ same-answer _ e, (sym (none-first d), buffer-fits _ _ w h ∙ same-buffer _ e))
 
-pub write-rows-spec : {M : Type 1} → statement M
-write-rows-spec =
+pub put-rows-spec : {M : Type 1} → statement M
+put-rows-spec =
     tie.close
     (tie.spec
     transposed-requires
@@ -112,11 +86,7 @@ write-rows-spec =
     enum-known-found
     enum-told
     below32-requires
-    slice-aggregate-put-form
     put-form-requires
-    array-share-prefix-space
-    slice-aggregate-copy
-    copy-requires
     returns
     same-length
     returns-2)
