@@ -117,7 +117,7 @@ fn kept(still: u32, i: usize, same: bool) -> u32
 }
 
 // One pass: what a chain of two waits gives is added, all of it by the rows at its start. From the last goal down: where the waits go up, the rows behind tell
-// what may be passed over. Answers the goals whose rows stay as they were.
+// what may be passed over. A row that stays is not stored again. Answers the goals whose rows stay as they were.
 fn pass(rows: &mut [u32; Graph::MAX], n: usize) -> u32
     requires { ⌜ (n ≤ S.goalLimit) × G.Within S.goalLimit n (now rows) ⌝ }
     ensures { λ r. ⌜
@@ -132,8 +132,10 @@ fn pass(rows: &mut [u32; Graph::MAX], n: usize) -> u32
         i -= 1;
         let row = old[i];
         let more = row_pass(&old, row, still);
-        rows[i] = more;
         still = kept(still, i, more == row);
+        if more != row {
+            rows[i] = more;
+        }
     }
     still
 }
