@@ -6,6 +6,8 @@
  * byte written is what the paper settles, for every input. They keep no state and
  * allocate nothing; each runs on a stack of 256 KB.
  *
+ * A record has version 1, or version 2 with a ground set and ticks at each goal.
+ *
  * Link with target/staticlib/liblfj.a, which `rt staticlib lfj` makes.
  *
  * WHAT A CALLER OWES. The proof takes these for granted, and nothing tests them:
@@ -19,7 +21,7 @@
  *   - A length is at most the largest size of an object, PTRDIFF_MAX.
  *
  * THE ANSWER is one word.
- *   bits 56 to 63   the refusal's number, 1 to 17; 0 if the call was accepted
+ *   bits 56 to 63   the refusal's number, 1 to 19; 0 if the call was accepted
  *   refused:
  *     bits 0 to 31  the place, see lfj_words() and the paper
  *     bits 32 to 55 with number 13 the goals a, b, c, d, six bits each; else 0
@@ -39,7 +41,9 @@ extern "C" {
 #endif
 
 /* No record that is accepted is longer, in bytes. */
-#define LFJ_RECORD_MAX 2102
+#define LFJ_RECORD_MAX 2422
+/* The most ticks of a goal; the least is 1. */
+#define LFJ_TICK_MAX 60000
 /* The most goals of a clause. */
 #define LFJ_GOAL_MAX 32
 /* The longest form, in bytes: a buffer of this size is never too short. */
@@ -48,8 +52,8 @@ extern "C" {
 #define LFJ_TEXT_MAX 512
 
 /*
- * Reads the record. Accepted: the goal count, 1 to 32.
- * Refused by 1 to 11, as every other function is.
+ * Reads the record, of version 1 or 2. Accepted: the goal count, 1 to 32.
+ * Refused by 1 to 11, 18 and 19, as every other function is.
  */
 uint64_t lfj_read(const uint8_t *record, size_t n);
 
@@ -178,12 +182,13 @@ static inline const char *lfj_words(unsigned number)
     case 0: return "accepted";
     case 1: return "the record is below 24 bytes (place: its length)";
     case 2: return "the record does not start with LFJ";
-    case 3: return "the record's version is not 1";
+    case 3: return "the record's version is neither 1 nor 2";
     case 4: return "the goal count is not 1 to 32";
     case 5: return "the variable count is above 64";
     case 6: return "the head has a variable at or above the count (place 8), "
                    "or a ground variable is outside the head (place 16)";
-    case 7: return "the record ends too early (place: its length)";
+    case 7: return "the record ends within a goal's fixed part, 9 bytes or in version 2 19, "
+                   "within a text or a pair (place: its length)";
     case 8: return "a goal has a variable at or above the count (place: the set's start)";
     case 9: return "a goal's text length is not 1 to 40, or a byte of its text not 33 to 126";
     case 10: return "a pair is not lower then higher, not below the variable count, "
@@ -196,6 +201,9 @@ static inline const char *lfj_words(unsigned number)
     case 16: return "the expression's text is not in the grammar from this place on";
     case 17: return "a number is no goal or was met before (place: its first byte), "
                     "or a goal is missing (place: the text's length)";
+    case 18: return "a goal's ground set lacks a variable of the one before, or has one that is "
+                    "in neither the head nor an earlier goal (place: the set's start)";
+    case 19: return "a goal's ticks are not 1 to 60000 (place: their first byte)";
     default: return "a refusal that this header does not know";
     }
 }

@@ -3,11 +3,12 @@
 
     tools/expectations.py CASES..        from the repository's root
 
-CASES are files of the conformance kit's format, `QUESTION = ANSWER` a line (kit/README.md): kit/cases/*.txt and kit/vectors/base.txt.
-The answers of drafts.txt come from the paper's text (tools/paper_drafts.py), those of base.txt from an independent annotator, those of
-the other files from the hand-written one of rust/compare. The questions go to crates/run_cases/data/cases.txt, the answers, and nothing
+CASES are files of the conformance kit's format, `QUESTION = ANSWER` a line (kit/README.md): kit/cases/*.txt and kit/vectors/after-01.txt.
+The answers of drafts.txt come from the paper's text (tools/paper_drafts.py), those of after-01.txt from an independent annotator, those
+of the other files from the hand-written one of rust/compare. The questions go to crates/run_cases/data/cases.txt, the answers, and nothing
 that the program itself printed, to crates/run_cases/stdout. A question about the length estimate keeps its answer's bounds, between
-which the program's answer must lie. A question that passes the program's arrays is an error.
+which the program's answer must lie. A question that passes the program's arrays is an error, but for a record that is refused at a place
+within them: the program has its first 4,096 bytes, and a record of so many is never refused for being too short.
 """
 import sys
 from kit_cases import bytes_of, cases, fail, write_all
@@ -19,7 +20,8 @@ questions, answers = [], []
 for place, question, answer in cases(sys.argv[1:]):
     operation, _, record, *rest = question.split()
     # of a sheet's input no more than the program's 4,096 bytes is read
-    if len(bytes_of(record)) > RECORD and operation != "sheet":
+    refused = answer.startswith("refused ") and int(answer.split()[2]) < RECORD
+    if len(bytes_of(record)) > RECORD and operation != "sheet" and not refused:
         fail(f"{place}: the record is longer than {RECORD} bytes")
     if operation == "check" and len(bytes_of(rest[0])) > TEXT:
         fail(f"{place}: the text is longer than {TEXT} bytes")

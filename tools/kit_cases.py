@@ -1,6 +1,8 @@
 """Reading the conformance kit's cases (kit/README.md), for the scripts beside this one."""
 import sys
 
+# the field K: how many change requests have landed
+LANDED = 1
 # the number of fields behind OPERATION and K
 FIELDS = {"read": 1, "waits": 1, "order": 1, "form": 2, "length": 1, "mel": 2, "text": 2, "check": 2, "sheet": 1}
 
@@ -31,9 +33,11 @@ def cases(paths):
                 words = question.split(" ")
                 if not answer or FIELDS.get(words[0]) != len(words) - 2:
                     fail(f"{path}:{number}: not a case of the kit's format")
+                if words[1] != str(LANDED):
+                    fail(f"{path}:{number}: the field K is not {LANDED}")
                 found.append((f"{path}:{number}", question, answer))
     if not found:
-        fail(f"no cases; name files of the kit, as in {sys.argv[0]} kit/cases/drafts.txt kit/vectors/base.txt")
+        fail(f"no cases; name files of the kit, as in {sys.argv[0]} kit/cases/drafts.txt kit/vectors/after-01.txt")
     return found
 
 

@@ -3,7 +3,7 @@
 
     tools/paper_drafts.py PAPER        from anywhere; writes kit/cases/drafts.txt
 
-PAPER is 01-scope.md; the drafts of tools/more_drafts.md follow its own. Questions and answers are both taken from their text: a draft
+PAPER is 01-scope.md; the drafts of tools/more_drafts.md follow its own, those of the change requests' sentences among them. Questions and answers are both taken from their text: a draft
 that the script cannot read is an error, and so is a piece of a draft that it would pass over. Where a draft names no answer ("the first
 four" of several) the answer is searched for by the paper's words. A draft given by waits is a record with one variable a goal, in which
 the pairs of goals that do not wait are listed.
@@ -12,22 +12,23 @@ import itertools
 import os
 import re
 import sys
-from kit_cases import fail, read_text, write_all
+from kit_cases import LANDED, fail, read_text, write_all
 
 WORDS = {"one": 1, "two": 2, "three": 3, "four": 4, "five": 5}
 ROOM = 400
 lines = []
 
 
-def record(head, ground, goals, pairs, variables=None, texts=None):
-    """The bytes of a record, version 1."""
+def record(head, ground, goals, pairs, variables=None, texts=None, facts=None):
+    """The bytes of a record: of version 2 if the goals' facts are given, a ground set and ticks for each, else of version 1."""
     if variables is None:
         variables = max([-1] + [v for goal in goals for v in goal] + list(head)) + 1
     number = lambda members: sum(1 << v for v in members).to_bytes(8, "big")
-    out = b"LFJ\0\1" + bytes([len(goals), variables, len(pairs)]) + number(head) + number(ground)
+    out = b"LFJ\0" + bytes([2 if facts else 1, len(goals), variables, len(pairs)]) + number(head) + number(ground)
     for at, goal in enumerate(goals):
         text = texts[at] if texts else b"g%d" % (at + 1)
-        out += number(goal) + bytes([len(text)]) + text
+        known = number(facts[at][0]) + facts[at][1].to_bytes(2, "big") if facts else b""
+        out += number(goal) + known + bytes([len(text)]) + text
     return out + b"".join(bytes(pair) for pair in sorted(pairs))
 
 
@@ -67,16 +68,16 @@ def case(question, answer):
 
 
 def text_case(operation, data, text):
-    case(f"{operation} 0 {hexed(data)} {ROOM}", f"ok {len(text)} {hexed(text.encode())}")
+    case(f"{operation} {LANDED} {hexed(data)} {ROOM}", f"ok {len(text)} {hexed(text.encode())}")
 
 
 def check_case(data, text, answer):
-    case(f"check 0 {hexed(data)} {hexed(text.encode())}", answer)
+    case(f"check {LANDED} {hexed(data)} {hexed(text.encode())}", answer)
 
 
 def no_form(data, four):
-    case(f"form 0 {hexed(data)} {ROOM}", f"refused 13 0 {four}")
-    case(f"length 0 {hexed(data)}", f"refused 13 0 {four}")
+    case(f"form {LANDED} {hexed(data)} {ROOM}", f"refused 13 0 {four}")
+    case(f"length {LANDED} {hexed(data)}", f"refused 13 0 {four}")
 
 
 def pairs_in(text):
@@ -107,6 +108,26 @@ def place_of(paper, start):
     return int(found[1])
 
 
+# a goal with its facts, a clause with such goals, and what is said of it
+GOAL = r"\{[\d,]*\}(?: knowing \{[\d,]*\})?(?: of \d+ ticks?)?"
+CLAUSE = rf"Version (\d+), head (\{{[\d,]*\}})(?:, ground (\{{[\d,]*\}}))?, goals ({GOAL}(?:, {GOAL})*)(?:, cut to (\d+) bytes)?: "
+SAID = r"(?:read|refused by \d+ at \d+|(?:form|MEL) `[^`]*`)"
+
+
+def with_facts(found):
+    """The record of a clause with facts at its goals: one that is not stated is the goal's before, at the first the header's; 1 tick."""
+    ground = sets_in(found[3] or "{}")[0]
+    goals, facts, known = [], [], ground
+    for goal in re.findall(GOAL, found[4]):
+        sets, ticks = sets_in(goal), re.search(r"of (\d+) tick", goal)
+        known = sets[1] if len(sets) > 1 else known
+        goals.append(sets[0])
+        facts.append((known, int(ticks[1]) if ticks else 1))
+    data = record(sets_in(found[2])[0], ground, goals, [], facts=facts)
+    data = data[:4] + bytes([int(found[1])]) + data[5:]
+    return data[: int(found[5])] if found[5] else data
+
+
 def one_draft(draft, paper, last):
     """Takes one draft, already without its star, apart. `last` is the record of the draft before it."""
     rest = draft
@@ -121,6 +142,16 @@ def one_draft(draft, paper, last):
     # a reason, as a sentence of its own in parentheses
     rest = re.sub(r" \([A-Z][^()`]*\.\)$", "", rest)
     data = last
+    # clauses with facts at their goals
+    for found in iter(lambda: take(CLAUSE + rf"({SAID}(?:, {SAID})*)"), None):
+        data = with_facts(found)
+        for said in re.findall(SAID, found[6]):
+            text = re.search(r"(form|MEL) `([^`]*)`", said)
+            if text:
+                text_case(text[1].lower(), data, text[2])
+            else:
+                refused = re.search(r"by (\d+) at (\d+)", said)
+                case(f"read {LANDED} {hexed(data)}", f"refused {refused[1]} {refused[2]}" if refused else "ok")
     # clauses given by their variable sets
     found = take(r"Head (\{[\d,]*\})(?:, ground (\{[\d,]*\}))?, goals ((?:\{[\d,]*\}(?:, )?)+)(?:no facts)?: ")
     if found:
@@ -160,12 +191,12 @@ def one_draft(draft, paper, last):
         for count in (int(found[1]), int(found[2])):
             data = bytearray(waiting(1, []))
             data[5] = count
-            case(f"read 0 {hexed(bytes(data))}", f"refused {found[3]} {place_of(paper, found[3] + ' goal count')}")
+            case(f"read {LANDED} {hexed(bytes(data))}", f"refused {found[3]} {place_of(paper, found[3] + ' goal count')}")
     found = take(r"Text length (\d+) accepted, (\d+) refused by (\d+)")
     if found:
-        case(f"read 0 {hexed(waiting(1, [], [b'x' * int(found[1])]))}", "ok")
+        case(f"read {LANDED} {hexed(waiting(1, [], [b'x' * int(found[1])]))}", "ok")
         # 9's place is the length byte, behind the header's 24 bytes and the goal's set
-        case(f"read 0 {hexed(waiting(1, [], [b'x' * int(found[2])]))}", f"refused {found[3]} {24 + 8}")
+        case(f"read {LANDED} {hexed(waiting(1, [], [b'x' * int(found[2])]))}", f"refused {found[3]} {24 + 8}")
     found = take(r"(\d+) bytes of expression read, (\d+) refused by (\d+)")
     if found:
         text = padded(10, int(found[1]))
@@ -200,7 +231,7 @@ def main(path):
     data = bytes.fromhex("".join("".join(re.findall(r"`([^`]*)`", whole[1])).split()))
     if len(data) != int(whole[2]):
         fail(f"{path}: the whole case has {len(data)} bytes")
-    case(f"sheet 0 {hexed(data)}", f"ok {hexed(whole[3].encode())}")
+    case(f"sheet {LANDED} {hexed(data)}", f"ok {hexed(whole[3].encode())}")
     for operation in ("form", "mel"):
         text_case(operation, data, re.search(f"^{operation} (.*)$", whole[3], re.M)[1])
     out = ["# The draft clauses that the paper prints, and the ones of tools/more_drafts.md; tools/paper_drafts.py takes them from their text."]

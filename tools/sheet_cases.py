@@ -7,8 +7,9 @@ CASES are files of the conformance kit's format (kit/README.md) that have sheets
 record that the program names is the first of theirs with the property below; it goes to crates/sheet_limits/data, and the sheets that
 the kit says, in the program's order, to crates/sheet_limits/stdout.
 """
+import re
 import sys
-from kit_cases import bytes_of, cases, fail, write_all
+from kit_cases import bytes_of, cases, fail, read_text, write_all
 
 
 def mel(sheet):
@@ -17,10 +18,10 @@ def mel(sheet):
 
 # a record's name, and what is true of it and its sheet
 WANTED = {
-    **{f"refused-{k}": lambda record, sheet, k=k: record and sheet.startswith(b"refused %d " % k) for k in range(1, 12)},
+    **{f"refused-{k}": lambda record, sheet, k=k: record and sheet.startswith(b"refused %d " % k) for k in [*range(1, 12), 18, 19]},
     "no-form": lambda record, sheet: b"\nform none " in sheet,
-    "longest": lambda record, sheet: len(record) == 2102 and sheet.startswith(b"goals 32\n"),
-    "longest-and-one": lambda record, sheet: sheet == b"refused 11 2102\n" and len(record) == 2103,
+    "longest": lambda record, sheet: len(record) == 2422 and sheet.startswith(b"goals 32\n"),
+    "longest-and-one": lambda record, sheet: sheet == b"refused 11 2422\n" and len(record) == 2423,
     "full": lambda record, sheet: len(record) == 4096,
     "beyond": lambda record, sheet: len(record) > 4097,
     "mel-at-limit": lambda record, sheet: len(mel(sheet)) == 32768,
@@ -33,8 +34,10 @@ for place, question, answer in cases(sys.argv[1:]):
     if operation == "sheet":
         sheets.append((bytes_of(fields[0]), bytes_of(answer.split()[1])))
 files, printed = {}, b""
-for name, holds in WANTED.items():
-    found = [pair for pair in sheets if holds(*pair)]
+for name in re.findall(r'print_sheet\(b"([^"]*)\.lfj"\)', read_text("crates/sheet_limits/src/main.rt")):
+    if name not in WANTED:
+        fail(f"the program names a record {name}, of which this script knows nothing")
+    found = [pair for pair in sheets if WANTED[name](*pair)]
     if not found:
         fail(f"these files have no record for {name}; name kit/cases/sheet.txt and kit/cases/mel-long.txt")
     files[f"crates/sheet_limits/data/{name}.lfj"] = found[0][0]

@@ -4,7 +4,7 @@
     tools/text_cases.py CASES..        from the repository's root
 
 CASES are files of the conformance kit's format (kit/README.md): kit/cases/drafts.txt, which tools/paper_drafts.py takes from the
-paper, kit/cases/readings.txt and kit/vectors/base.txt. The expectation is the answer of each `check` line whose record is accepted,
+paper, kit/cases/readings.txt and kit/vectors/after-01.txt. The expectation is the answer of each `check` line whose record is accepted,
 never what the program printed: refusals 15 to 17 as they stand, and `read` for a text that got a verdict.
 """
 import sys

@@ -52,7 +52,8 @@ use Rattle.annotator.specs.declared.TextAnswer.the-variants.{At, NoText}
 use Rattle.annotator.specs.declared.CheckAnswer.{CheckAnswer}
 use Rattle.annotator.specs.declared.CheckAnswer.the-variants.{Verdict, Rejected}
 use Rattle.annotator.specs.Answers.{read, readOutcome, goalText, textOutcome, noSpan, check, checkOutcome}
-use Rattle.annotator.specs.Cases.{OfReading, OfText, OfCheck, OfForm, OfEstimate, OfMel, Refuses, Numbers, OneAnswer}
+use Rattle.record.specs.Limits.{OfReading}
+use Rattle.annotator.specs.Cases.{OfText, OfCheck, OfForm, OfEstimate, OfMel, Refuses, Numbers, OneAnswer}
 
 -- ---- the numbers of refusals
 abbrev Turned : {A : Type 0} → (ℕ → Type 0) → Outcome A → Type 0
@@ -84,20 +85,27 @@ sized P o buf h u = all-size (λ k p. P k) (λ x. Unit {0}) (λ x. Unit {0}) o b
 
 -- ---- all of them are 1 or more
 module _ (k : ℕ) where
+  reading-some : OfReading k → 1 ≤ k
+  reading-some h = ⊎-elim (λ a. a .0) (λ a. omega (arith, a .0)) h
+
+  -- 13 is no refusal of reading
+  reading-apart : OfReading k → k ≡ 13 → ⊥
+  reading-apart h e = ⊎-elim (λ a. omega (arith, a .1, e)) (λ a. omega (arith, a .0, e)) h
+
   text-some : OfText k → 1 ≤ k
-  text-some h = ⊎-elim (λ a. a .0) (λ a. omega arith) h
+  text-some h = ⊎-elim reading-some (λ a. omega arith) h
 
   check-some : OfCheck k → 1 ≤ k
-  check-some h = ⊎-elim (λ a. a .0) (λ a. omega arith) h
+  check-some h = ⊎-elim reading-some (λ a. omega arith) h
 
   form-some : OfForm k → 1 ≤ k
-  form-some h = ⊎-elim (λ a. a .0) (λ a. ⊎-elim (λ c. omega arith) (λ c. omega arith) a) h
+  form-some h = ⊎-elim reading-some (λ a. ⊎-elim (λ c. omega arith) (λ c. omega arith) a) h
 
   estimate-some : OfEstimate k → 1 ≤ k
-  estimate-some h = ⊎-elim (λ a. a .0) (λ a. omega arith) h
+  estimate-some h = ⊎-elim reading-some (λ a. omega arith) h
 
   mel-some : OfMel k → 1 ≤ k
-  mel-some h = ⊎-elim (λ a. a .0) (λ a. omega arith) h
+  mel-some h = ⊎-elim reading-some (λ a. omega arith) h
 
 module _ (b : List ℕ) where
   read-turned : Turned OfReading (read b)
@@ -155,14 +163,14 @@ module _ (b : List ℕ) where
             λ (q, h). found-thirteen b w buf q (sym (shown-fine b e) ∙ h),
           )
       go (Unread r) e = (
-        λ h. absurd (let z = one-refusal (sym (ap (λ (o : Outcome (List ℕ)). sizeIn o buf) (form-refused b r e)) ∙ h) in omega (arith, z .0, refusal-number b r e .1)),
+        λ h. absurd (reading-apart (r .number) (refusal-number b r e) (one-refusal (sym (ap (λ (o : Outcome (List ℕ)). sizeIn o buf) (form-refused b r e)) ∙ h) .0)),
         λ (q, h). absurd (let k = sym (shown-refused b r e) ∙ h in let z : _≡_ {A = ℕ} 0 1 = cc in omega arith),
       )
 
   pub numbers : Numbers b
   numbers =
       record {
-        of-read = number-zero 0 (read b) (λ k p e. refuses .of-read k p e .0);
+        of-read = number-zero 0 (read b) (λ k p e. reading-some k (refuses .of-read k p e));
         of-text = λ g. number-zero noSpan (goalText b g) (λ k p e. text-some k (refuses .of-text g k p e));
         of-check = λ t. number-zero same (check b t) (λ k p e. check-some k (refuses .of-check t k p e));
         of-form = λ buf. number-zero 0 (F.formAnswer b buf) (λ k p e. form-some k (refuses .of-form buf k p e));

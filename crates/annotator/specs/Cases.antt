@@ -7,6 +7,7 @@ use Prim.Native.Nat.{ℕ, _≤_}
 use Rattle.record_rules.specs.Outcome.{Outcome, refused, values, Accepted}
 use Rattle.expression.specs.Search.{Four}
 use Rattle.expression_grammar.specs.Check.{same}
+use Rattle.record.specs.Limits.{OfReading}
 use Rattle.form.specs.Form as F
 use Rattle.form.specs.declared.FormAnswer.{FormAnswer}
 use Rattle.mel.specs.Annotation as M
@@ -17,9 +18,6 @@ use Rattle.annotator.specs.declared.CheckAnswer.{CheckAnswer}
 use Rattle.annotator.specs.Answers.{read, readOutcome, goalText, textOutcome, noSpan, check, checkOutcome}
 
 -- ---- 01, "What each operation turns down": the refusals of reading, which starts every operation, and those of its own.
-abbrev pub OfReading : ℕ → Type 0
-OfReading k = (1 ≤ k) × (k ≤ 11)
-
 abbrev pub OfText : ℕ → Type 0
 OfText k = OfReading k ⊎ (k ≡ 14)
 

@@ -1,19 +1,20 @@
 // The operations of the paper, each from lent bytes to its whole answer. None has a precondition.
 //
 // `bytes` is the record. It and `text` are lent by `&` and stay as they were; `out` is lent by `&mut`. Reading the record starts every operation, so
-// refusals 1 to 11 come first, then those of its own in the sequence given. A refusal has its number and place (the README's table), 13 also its four goals,
-// and changes no lent byte. Each answer is promised as an outcome, refused or accepted (record_rules: Outcome), and one answer has it (specs/Cases.antt).
+// its refusals, 1 to 11, 18 and 19 ("reading" below), come first, then those of its own in the sequence given. A refusal has its number and place (the
+// README's table), 13 also its four goals, and changes no lent byte. Each answer is promised as an outcome, refused or accepted (record_rules: Outcome), and
+// one answer has it (specs/Cases.antt).
 //
 // operation               accepted, it answers                                                 refuses              promised by
 // ----------------------  -------------------------------------------------------------------  -------------------  -----------------------------------------------
-// read(bytes)             the goal count n                                                     1 to 11              Answers.read
-// order(bytes)            n and the closed graph: row g - 1 has the goals that g is before     1 to 11              Answers.read, Answers.orderGraph
-// form(bytes, out)        the length of the house form's text, which fills the start of `out`  1 to 11, 13, 12      form: Form.formAnswer, shown, formBuffer
-// form_length(bytes)      a number from the form's length up to 160, which one is left free    1 to 11, 13          form: Form.Estimated, formText, shown
-// mel(bytes, out)         the length of the MEL annotation, which fills the start of `out`     1 to 11, 12          mel: Annotation.melAnswer, melBuffer
-// find_text(bytes, goal)  the place and the length of the goal's text in the record            1 to 11, 14          Answers.goalText
+// read(bytes)             the goal count n                                                     reading              Answers.read
+// order(bytes)            n and the closed graph: row g - 1 has the goals that g is before     reading              Answers.read, Answers.orderGraph
+// form(bytes, out)        the length of the house form's text, which fills the start of `out`  reading, 13, 12      form: Form.formAnswer, shown, formBuffer
+// form_length(bytes)      a number from the form's length up to 160, which one is left free    reading, 13          form: Form.Estimated, formText, shown
+// mel(bytes, out)         the length of the MEL annotation, which fills the start of `out`     reading, 12          mel: Annotation.melAnswer, melBuffer
+// find_text(bytes, goal)  the place and the length of the goal's text in the record            reading, 14          Answers.goalText
 // goal_text(bytes, goal)  the part of the lent record that holds this text                     as find_text         Answers.textPart, Part.PartAt
-// check(bytes, text)      "same", or "differs" with the first i, then j                        1 to 11, 15, 16, 17  Answers.check; expression_grammar: Check
+// check(bytes, text)      "same", or "differs" with the first i, then j                        reading, 15, 16, 17  Answers.check; expression_grammar: Check
 //
 // The definitions are those of specs/ here, or of the crate named before a colon. Rows past n are empty, and a refused record's graph is the empty one of
 // 0 goals. Behind its text `out` is kept. With any refusal, which find_text names, the part is the empty one at the record's start. For i and j just one
@@ -34,7 +35,7 @@ ghost use Rattle.mel.specs.Annotation as M;
 ghost use Rattle.annotator.specs.Answers as W;
 ghost use Rattle.annotator.specs.Part.{PartAt};
 
-// Reading: the goal count, or refusal 1 to 11.
+// Reading: the goal count, or a refusal.
 pub enum ReadAnswer {
     Accepted(usize),
     Refused(Refusal),
@@ -136,8 +137,9 @@ pub fn find_text(bytes: &[u8], goal: u32) -> TextAnswer
             let n = record_fields::goal_count(bytes);
             if inside(g, n) {
                 let at = record_fields::goal_place(bytes, g);
-                let place = record_fields::text_at(bytes, at);
-                let size = record_fields::text_length_at(bytes, at);
+                let own = record_fields::own_facts(bytes);
+                let place = record_fields::text_at(bytes, at, own);
+                let size = record_fields::text_length_at(bytes, at, own);
                 return TextAnswer::At(Span { place, size });
             }
             TextAnswer::NoText(Refusal {

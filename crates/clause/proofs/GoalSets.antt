@@ -1,4 +1,4 @@
--- The sets of the goals, and the variables known ground at them, and filling them, for any width.
+-- The sets of the goals, the variables known ground at them, and their ticks, and filling them, for any width.
 use mathlib.Core.Path.{_≡_, ap, _∙_}
 use mathlib.Core.List.{List}
 use Prim.Native.Nat.{ℕ, suc, _+_, _-_, _≤_, _<_}
@@ -7,9 +7,9 @@ use lib.ListN.{getD, set, replicate}
 use Rattle.logic.specs.Table.{table}
 use Rattle.logic.proofs.Table.{table-at, table-zero, table-more}
 use Rattle.record_fields.specs.Fields as F
-use Rattle.record_fields.specs.Facts.{groundAt}
-use Rattle.record_fields.specs.Fields.{goalCount, groundSet, goalSet, placeAfter}
-use Rattle.clause.specs.Clause.{goalSets, groundSets}
+use Rattle.record_fields.specs.Facts.{groundOf, ticksOf, groundAt, ticksAt}
+use Rattle.record_fields.specs.Fields.{goalCount, goalSet, placeAfter}
+use Rattle.clause.specs.Clause.{goalSets, groundSets, goalTicks}
 
 module _ (w : ℕ) (b : List ℕ) where
   -- the sets of the first g goals
@@ -43,9 +43,11 @@ module _ (w : ℕ) (b : List ℕ) where
   unfolding groundsAfter
   grounds-zero = table-zero w (λ i. groundAt b (suc i))
 
-  pub grounds-more : (g : ℕ) (l : List ℕ) (v : ℕ) → g < w → l ≡ groundsAfter g → v ≡ groundSet b → set l g v ≡ groundsAfter (g + 1)
-  unfolding groundsAfter
-  grounds-more g l v h e q = table-more w g (λ i. groundAt b (suc i)) l v h e q
+  pub grounds-more : (g at : ℕ) (l : List ℕ) (v : ℕ) → g < w → l ≡ groundsAfter g → at ≡ placeAfter b g → v ≡ groundOf b at → set l g v ≡ groundsAfter (g + 1)
+  unfolding groundsAfter groundAt
+  grounds-more g at l v h e p q =
+      let one : g ≡ suc g - 1 = omega arith in
+      table-more w g (λ i. groundAt b (suc i)) l v h e (q ∙ ap (groundOf b) (p ∙ ap (placeAfter b) one))
 
   pub grounds-all : (g : ℕ) → g ≡ goalCount b → groundsAfter g ≡ groundSets w b
   unfolding groundsAfter groundSets
@@ -54,3 +56,21 @@ module _ (w : ℕ) (b : List ℕ) where
   pub ground-at : (i : ℕ) → goalCount b ≤ w → i < goalCount b → getD (groundSets w b) i 0 ≡ groundAt b (suc i)
   unfolding groundSets
   ground-at i h l = table-at w (goalCount b) (λ k. groundAt b (suc k)) i (omega arith) l
+
+  -- ---- the ticks of the first g goals
+  unfoldable pub ticksAfter : ℕ → List ℕ
+  ticksAfter g = table w g (λ i. ticksAt b (suc i))
+
+  pub ticks-zero : replicate w 0 ≡ ticksAfter 0
+  unfolding ticksAfter
+  ticks-zero = table-zero w (λ i. ticksAt b (suc i))
+
+  pub ticks-more : (g at : ℕ) (l : List ℕ) (v : ℕ) → g < w → l ≡ ticksAfter g → at ≡ placeAfter b g → v ≡ ticksOf b at → set l g v ≡ ticksAfter (g + 1)
+  unfolding ticksAfter ticksAt
+  ticks-more g at l v h e p q =
+      let one : g ≡ suc g - 1 = omega arith in
+      table-more w g (λ i. ticksAt b (suc i)) l v h e (q ∙ ap (ticksOf b) (p ∙ ap (placeAfter b) one))
+
+  pub ticks-all : (g : ℕ) → g ≡ goalCount b → ticksAfter g ≡ goalTicks w b
+  unfolding ticksAfter goalTicks
+  ticks-all g e = ap (λ (n : ℕ). table w n (λ i. ticksAt b (suc i))) e

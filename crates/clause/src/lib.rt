@@ -21,17 +21,27 @@ pub struct Clause {
     pub sets: [u64; Graph::MAX],
     // The variables known ground at each goal.
     pub grounds: [u64; Graph::MAX],
+    // How many ticks each goal takes.
+    pub ticks: [u32; Graph::MAX],
     // Row x has the variables that are listed in a pair with x.
     pub listed: [u64; sets::VARIABLES],
 }
 
-// Stores the variable set of each of the n goals, and the variables known ground at it. In version 1 every goal has the header's ground set. A goal starts at
-// `fixed` + `texts`, what the fixed parts and what the texts before it take up: summed apart, so that a goal waits for one length byte and one sum.
-fn take_goals(b: &[u8], n: usize, sets: &mut [u64; Graph::MAX], grounds: &mut [u64; Graph::MAX])
-    requires { ⌜ WellFormed (now b) × (n ≡ F.goalCount (now b)) × (now sets ≡ replicate goalLimit 0) × (now grounds ≡ replicate goalLimit 0) ⌝ }
+// Stores the variable set of each of the n goals, the variables known ground at it, and its ticks. A goal starts at `fixed` + `texts`, what the fixed parts and
+// what the texts before it take up: summed apart, so that a goal waits for one length byte and one sum.
+fn take_goals(
+    b: &[u8],
+    n: usize,
+    sets: &mut [u64; Graph::MAX],
+    grounds: &mut [u64; Graph::MAX],
+    ticks: &mut [u32; Graph::MAX],
+)
+    requires { ⌜ WellFormed (now b) × (n ≡ F.goalCount (now b)) × (now sets ≡ replicate goalLimit 0) × (now grounds ≡ replicate goalLimit 0) × (now ticks ≡ replicate goalLimit 0) ⌝ }
     ensures { λ _. ⌜ now (sets .exit) ≡ C.goalSets goalLimit (now (b .entry)) ⌝ }
     ensures { λ _. ⌜ now (grounds .exit) ≡ C.groundSets goalLimit (now (b .entry)) ⌝ }
+    ensures { λ _. ⌜ now (ticks .exit) ≡ C.goalTicks goalLimit (now (b .entry)) ⌝ }
 {
+    let own = record_fields::own_facts(b);
     let ground = record_fields::whole_set(b, record_fields::GROUND);
     let mut fixed: usize = HEADER;
     let mut texts: usize = 0;
@@ -39,9 +49,10 @@ fn take_goals(b: &[u8], n: usize, sets: &mut [u64; Graph::MAX], grounds: &mut [u
     while g < n {
         let at = fixed + texts;
         sets[g] = record_fields::whole_set(b, at);
-        grounds[g] = ground;
-        let length = record_fields::size_of(b[record_fields::length_at(b, at)]);
-        fixed = record_fields::text_at(b, fixed);
+        grounds[g] = record_fields::whole_ground(b, at, own, ground);
+        ticks[g] = record_fields::ticks_of(b, at, own);
+        let length = record_fields::size_of(b[record_fields::length_at(b, at, own)]);
+        fixed = record_fields::text_at(b, fixed, own);
         texts += length;
         g += 1;
     }
@@ -87,7 +98,8 @@ pub fn decode(b: &[u8]) -> Clause
     let head = record_fields::whole_set(b, record_fields::HEAD);
     let mut sets = [0u64; Graph::MAX];
     let mut grounds = [0u64; Graph::MAX];
-    take_goals(b, n, &mut sets, &mut grounds);
+    let mut ticks = [0u32; Graph::MAX];
+    take_goals(b, n, &mut sets, &mut grounds, &mut ticks);
     let mut listed = [0u64; sets::VARIABLES];
     take_pairs(b, b.len() - 2 * p, p, &mut listed);
     Clause {
@@ -97,6 +109,7 @@ pub fn decode(b: &[u8]) -> Clause
         head,
         sets,
         grounds,
+        ticks,
         listed,
     }
 }

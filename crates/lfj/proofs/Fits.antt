@@ -14,7 +14,9 @@ use lib.ListN.{length}
 use lib.Pow.{pow-mono}
 use Rattle.graph.specs.Graph.{goalsOf}
 use Rattle.graph.proofs.Rows.{goals-lt}
-use Rattle.record_fields.specs.Fields.{goalCount, textPlace}
+use mathlib.Core.Logic.{⊎-elim}
+use Rattle.record_fields.specs.Fields.{goalCount, goalPlace, textPlace}
+use Rattle.record_fields.proofs.Facts.{length-between}
 use Rattle.record_rules.specs.declared.Refusal.{Refusal}
 use Rattle.record_rules.specs.declared.Reading.{Reading}
 use Rattle.record_rules.specs.declared.Reading.the-variants.{Fine, Refused as Unread}
@@ -82,7 +84,7 @@ module _ (b : List ℕ) (bytes : Bytes b) where
       let w = fine-well-formed b e in
       let l = between-low 1 (goalCount b) g t in
       let h = between-high 1 (goalCount b) g t in
-      (omega (arith, place-limit b w (g - 1) (omega arith), w .goals-to), omega (arith, text-limit b w g l h))))
+      (omega (arith, place-limit b w (g - 1) (omega arith), w .goals-to, length-between b (goalPlace b g)), omega (arith, text-limit b w g l h))))
 
   -- ---- i and j of a difference are goals, and the place of a text's refusal is at most 512
   abbrev Goals : Verdict → Type 0
@@ -224,7 +226,7 @@ module _ (b : List ℕ) where
 
       turned : (r : Refusal) → reading b ≡ Unread r → (r .number ≡ 0) ↔ (WellFormed b × (1 ≤ g) × (g ≤ n))
       turned r q = (
-        λ z. absurd (omega (arith, refusal-number b r q .0)),
+        λ z. absurd (⊎-elim (λ a. omega (arith, a .0, z)) (λ a. omega (arith, a .0, z)) (refusal-number b r q)),
         λ h. absurd (let k = sym (well-formed-fine b (h .0)) ∙ q in let z : _≡_ {A = ℕ} 0 1 = cc in omega arith),
       )
 

@@ -10,8 +10,8 @@ use Rattle.record_rules.specs.Outcome.{Outcome, refused, accepted, readThen, si
 use Rattle.mel.specs.declared.MelAnswer.{MelAnswer}
 use Rattle.mel.specs.declared.MelAnswer.the-variants as W
 
--- What the annotation reads of a record. 01: "Its facts are taken to hold at every goal"; "Two variables are known independent if their pair is listed or
--- either is ground"; no variable is known independent of every other. The facts at goal g are those of the stage whose first goal it is.
+-- What the annotation reads of a record. 01: "Two variables are known independent if their pair is listed or either is ground"; no variable is known independent
+-- of every other. 02, 1: "a MEL stage by that at its first goal": the facts at goal g are those of the stage whose first goal it is.
 unfoldable pub factsOf : List ℕ → Facts
 factsOf b =
     record {

@@ -62,7 +62,7 @@ fn write_clause<'a>(
     MelAnswer::Done(end)
 }
 
-// Writes the annotation of a record: refusals 1 to 11 of reading it, then 12.
+// Writes the annotation of a record: the refusals of reading it, then 12.
 pub fn write(b: &[u8], out: &mut [u8]) -> MelAnswer
     ensures { λ r. ⌜ N.outcome r ≡ N.melAnswer (now (b .entry)) (now (out .entry)) ⌝ }
     ensures { λ _. ⌜ now (out .exit) ≡ N.melBuffer (now (b .entry)) (now (out .entry)) ⌝ }

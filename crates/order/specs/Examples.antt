@@ -7,7 +7,8 @@ use Rattle.logic.specs.Quantifiers.{every, someBelow}
 use Rattle.sets.specs.Sets.{has, setOf}
 use Rattle.logic.specs.Table.{tableFrom}
 use Rattle.graph.specs.Graph.{goalsOf, rowsOf}
-use Rattle.record_fields.specs.Fields.{number, placeAfter, goalSet, listed}
+use Rattle.record_fields.specs.Fields.{number, ownFacts, lengthAt, placeAfter, goalSet, listed}
+use Rattle.record_fields.specs.Facts.{groundOf, groundAt}
 use Rattle.independence.specs.Independence.{knownIndependent, independent}
 use Rattle.order.specs.Order.{waits, before, order}
 use Rattle.order.specs.Arrays.{waiting}
@@ -17,6 +18,13 @@ abbrev three : ℕ → ℕ → ℕ → ℕ → ℕ → List ℕ → List ℕ
 three ground x y z p pairs =
     0x4C ∷ 0x46 ∷ 0x4A ∷ 0 ∷ 1 ∷ 3 ∷ 3 ∷ p ∷ 0 ∷ 0 ∷ 0 ∷ 0 ∷ 0 ∷ 0 ∷ 0 ∷ 7 ∷ 0 ∷ 0 ∷ 0 ∷ 0 ∷ 0 ∷ 0 ∷ 0 ∷ ground
     ∷ 0 ∷ 0 ∷ 0 ∷ 0 ∷ 0 ∷ 0 ∷ 0 ∷ x ∷ 1 ∷ 0x61 ∷ 0 ∷ 0 ∷ 0 ∷ 0 ∷ 0 ∷ 0 ∷ 0 ∷ y ∷ 1 ∷ 0x62 ∷ 0 ∷ 0 ∷ 0 ∷ 0 ∷ 0 ∷ 0 ∷ 0 ∷ z ∷ 1 ∷ 0x63 ∷ pairs
+
+-- the version 2 record of two goals with the variable sets x and y, whose ground sets are g and h, and which take 1 tick each
+abbrev two : ℕ → ℕ → ℕ → ℕ → List ℕ
+two g x h y =
+    0x4C ∷ 0x46 ∷ 0x4A ∷ 0 ∷ 2 ∷ 2 ∷ 3 ∷ 0 ∷ 0 ∷ 0 ∷ 0 ∷ 0 ∷ 0 ∷ 0 ∷ 0 ∷ 7 ∷ 0 ∷ 0 ∷ 0 ∷ 0 ∷ 0 ∷ 0 ∷ 0 ∷ 0
+    ∷ 0 ∷ 0 ∷ 0 ∷ 0 ∷ 0 ∷ 0 ∷ 0 ∷ x ∷ 0 ∷ 0 ∷ 0 ∷ 0 ∷ 0 ∷ 0 ∷ 0 ∷ g ∷ 0 ∷ 1 ∷ 1 ∷ 0x61
+    ∷ 0 ∷ 0 ∷ 0 ∷ 0 ∷ 0 ∷ 0 ∷ 0 ∷ y ∷ 0 ∷ 0 ∷ 0 ∷ 0 ∷ 0 ∷ 0 ∷ 0 ∷ h ∷ 0 ∷ 1 ∷ 1 ∷ 0x62 ∷ []
 
 -- the first three rows of the waits and of the order
 abbrev waitsOf : List ℕ → List ℕ
@@ -37,5 +45,8 @@ examples
     × (orderOf (three 0 1 2 4 1 (0 ∷ 2 ∷ [])) ≡ 6 ∷ 4 ∷ 0 ∷ [])
     -- no goal has a variable
     × (orderOf (three 0 0 0 0 0 []) ≡ 0 ∷ 0 ∷ 0 ∷ [])
-unfolding every someBelow has setOf tableFrom goalsOf rowsOf number placeAfter goalSet listed knownIndependent independent waits before order waiting
-examples = (refl, refl, refl, refl, refl, refl)
+    -- version 2: the shared variable 0 is ground at goal 1; known at goal 2 alone it does not help
+    × (waitsOf (two 1 1 1 1) ≡ 0 ∷ 0 ∷ 0 ∷ [])
+    × (waitsOf (two 0 1 1 1) ≡ 2 ∷ 0 ∷ 0 ∷ [])
+unfolding every someBelow has setOf tableFrom goalsOf rowsOf number ownFacts lengthAt placeAfter groundOf groundAt goalSet listed knownIndependent independent waits before order waiting
+examples = (refl, refl, refl, refl, refl, refl, refl, refl)

@@ -15,9 +15,14 @@ use Rattle.sets.specs.Sets.{variableLimit}
 abbrev pub earlier : ℕ → ℕ → ℕ → Bool
 earlier n i j = leb 1 i && ltb i j && leb j n
 
--- 01: "Otherwise the later goal waits for the earlier one": goal j waits for the earlier goal i, by the facts that hold at goal i
+-- 01: "Otherwise the later goal waits for the earlier one"; 02, 1: "a pair of goals is judged by the ground set at its earlier goal": goal j waits for the
+-- earlier goal i, where the variables known ground at each goal, and those known independent of every other, are given
+abbrev pub waitsKnowing : (ground free : ℕ → ℕ) → List ℕ → ℕ → ℕ → Bool
+waitsKnowing ground free b i j = earlier (goalCount b) i j && not (independent (ground i) (free i) (listed b) variableLimit (goalSet b i) (goalSet b j))
+
+-- by the record's facts
 unfoldable pub waits : List ℕ → ℕ → ℕ → Bool
-waits b i j = earlier (goalCount b) i j && not (independent (groundAt b i) (freeAt b i) (listed b) variableLimit (goalSet b i) (goalSet b j))
+waits b i j = waitsKnowing (groundAt b) (freeAt b) b i j
 
 -- 01: "Goal i is before goal j if a chain of waits leads from i to j"
 abbrev pub Before : List ℕ → ℕ → ℕ → Type 0

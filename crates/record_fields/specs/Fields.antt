@@ -1,6 +1,6 @@
--- The fields of a clause record (01, "The record, version 1"), as functions of its bytes. A byte past the end is 0, so that every field is a number for any
--- bytes. Every place is given by a definition that takes the bytes, since a later version may place its fields differently.
-use mathlib.Core.Bool.{Bool, _&&_, _||_}
+-- The fields of a clause record (01, "The record, version 1"; 02, 1: version 2), as functions of its bytes. A byte past the end is 0, so that every field is a
+-- number for any bytes. Every place is given by a definition that takes the bytes, since the versions place their fields differently.
+use mathlib.Core.Bool.{Bool, _&&_, _||_, cond}
 use mathlib.Core.List.{List}
 use Prim.Native.Nat.{ℕ, zero, suc, _+_, _-_, _*_}
 use lib.Dec.{eqb}
@@ -31,7 +31,14 @@ letters = 0x4C464A
 abbrev pub version : List ℕ → ℕ
 version b = number b 3 2
 
--- 01: "Byte 5: goal count n. Byte 6: variable count v. Byte 7: pair count p"
+-- 01: "version, 1"; 02, 1: "Version 2"
+abbrev pub versionOne : ℕ
+versionOne = 1
+
+abbrev pub versionTwo : ℕ
+versionTwo = 2
+
+-- 01: "Byte 5: goal count n" .. "Byte 6: variable count v" .. "Byte 7: pair count p"
 abbrev pub goalCount : List ℕ → ℕ
 goalCount b = byte b 5
 
@@ -41,7 +48,7 @@ varCount b = byte b 6
 abbrev pub pairCount : List ℕ → ℕ
 pairCount b = byte b 7
 
--- 01: "Bytes 8 to 15: head set. Bytes 16 to 23: ground set"
+-- 01: "Bytes 8 to 15: head set" .. "Bytes 16 to 23: ground set"
 abbrev pub headSet : List ℕ → ℕ
 headSet b = set b 8
 
@@ -52,16 +59,22 @@ groundSet b = set b 16
 abbrev pub headerSize : ℕ
 headerSize = 24
 
+-- 02, 1: "Version 2 puts, after each goal's variable set, an 8-byte ground set known just left of that goal and a 16-bit tick count": whether the goals of a
+-- record have such facts of their own
+unfoldable pub ownFacts : List ℕ → Bool
+ownFacts b = eqb (version b) versionTwo
+
 -- 01: "Then n goals: variable set, one length byte (1 to 40), that many text bytes". Of the goal that starts at a place: where its length byte and its
 -- text stand, how long its text is, and where it ends. The bytes before the text are its fixed part.
-abbrev pub fixedSize : ℕ
-fixedSize = 9
-
-abbrev pub lengthAt : List ℕ → ℕ → ℕ
-lengthAt b at = at + 8
+unfoldable pub lengthAt : List ℕ → ℕ → ℕ
+lengthAt b at = at + cond (ownFacts b) 18 8
 
 abbrev pub textAt : List ℕ → ℕ → ℕ
-textAt b at = at + fixedSize
+textAt b at = lengthAt b at + 1
+
+-- 02, 1: "The fixed part of a version 2 goal is 19 bytes": no goal has a longer one
+abbrev pub fixedSize : ℕ
+fixedSize = 19
 
 abbrev pub textLengthAt : List ℕ → ℕ → ℕ
 textLengthAt b at = byte b (lengthAt b at)

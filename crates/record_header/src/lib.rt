@@ -26,13 +26,11 @@ fn mark_fine(b: &[u8]) -> bool
     record_fields::number(b, 0, 3) == LETTERS
 }
 
-// The version that is read.
-const VERSION: u64 = 1;
-
 fn version_fine(b: &[u8]) -> bool
-    ensures { λ r. ⌜ r ≡ R.versionOne (F.version (now (b .entry))) ⌝ }
+    ensures { λ r. ⌜ r ≡ R.knownVersion (F.version (now (b .entry))) ⌝ }
 {
-    record_fields::number(b, 3, 2) == VERSION
+    let version = record_fields::version(b);
+    (record_fields::VERSION_ONE <= version) & (version <= record_fields::VERSION_TWO)
 }
 
 fn goals_fine(b: &[u8]) -> bool
@@ -50,7 +48,7 @@ fn variables_fine(b: &[u8]) -> bool
 
 // Checks the length, the mark, the version and the counts.
 fn counts(b: &[u8]) -> Reading
-    ensures { λ r. ⌜ r ≡ R.counts R.versionOne (now (b .entry)) ⌝ }
+    ensures { λ r. ⌜ r ≡ R.counts R.knownVersion (now (b .entry)) ⌝ }
 {
     let s = Reading::Fine;
     let s = record_rules::also(s, size_fine(b), 1, b.len());
@@ -62,7 +60,7 @@ fn counts(b: &[u8]) -> Reading
 
 // Checks the header.
 pub fn header(b: &[u8]) -> Reading
-    ensures { λ r. ⌜ r ≡ R.header R.versionOne (now (b .entry)) ⌝ }
+    ensures { λ r. ⌜ r ≡ R.header R.knownVersion (now (b .entry)) ⌝ }
 {
     let v = record_fields::var_count(b);
     let head = record_fields::head_set(b);

@@ -5,10 +5,11 @@ use mathlib.Core.List.{List}
 use Prim.Native.Nat.{ℕ, zero, suc, _+_, _-_, _<_}
 use native.Mathlib.Numerals.{add-one}
 use native.Mathlib.Omega.{arith}
+use Rattle.record_fields.specs.Facts.{groundBefore, metBefore}
 use Rattle.record_fields.specs.Fields.{goalCount, placeAfter, pairCount}
 use Rattle.record_rules.specs.declared.Reading.{Reading}
 use Rattle.record_rules.specs.declared.Reading.the-variants.{Fine, Refused}
-use Rattle.record_rules.specs.Reading.{_must_else_place_, header, goal, goals, pair, pairs, end, ending, readingOf, versionOne, reading}
+use Rattle.record_rules.specs.Reading.{_must_else_place_, header, goal, goals, pair, pairs, end, ending, readingOf, knownVersion, reading}
 use Rattle.record_rules.specs.Fine.{fine, headerFine, goalFine}
 
 pub fine-must : (s : Reading) (t : Bool) (k p : ℕ) → fine (s must t else k place p) ≡ fine s && t
@@ -25,17 +26,19 @@ fine-is (Refused r) e = absurd (false≢true e)
 module _ (b : List ℕ) where
   -- ---- a refusal stays
 
-  goal-stays : (at : ℕ) (s : Reading) → fine s ≡ false → goal b at s ≡ s
+  goal-stays : (at before met : ℕ) (s : Reading) → fine s ≡ false → goal b at before met s ≡ s
   unfolding fine goal _must_else_place_
-  goal-stays at Fine e = absurd (false≢true (sym e))
-  goal-stays at (Refused r) e = refl
+  goal-stays at before met Fine e = absurd (false≢true (sym e))
+  goal-stays at before met (Refused r) e = refl
 
   goals-stay : (d g : ℕ) (s : Reading) → fine (goals b g s) ≡ false → goals b (d + g) s ≡ goals b g s
   unfolding goals
   goals-stay zero g s e = let z : 0 + g ≡ g = omega arith in ap (λ (n : ℕ). goals b n s) z
   goals-stay (suc d) g s e =
       let z : suc d + g ≡ suc (d + g) = omega arith in
-      ap (λ (n : ℕ). goals b n s) z ∙ ap (goal b (placeAfter b (d + g))) (goals-stay d g s e) ∙ goal-stays (placeAfter b (d + g)) (goals b g s) e
+      let k = d + g in
+      ap (λ (n : ℕ). goals b n s) z ∙ ap (goal b (placeAfter b k) (groundBefore b k) (metBefore b k)) (goals-stay d g s e)
+      ∙ goal-stays (placeAfter b k) (groundBefore b k) (metBefore b k) (goals b g s) e
 
   pair-stays : (k : ℕ) (s : Reading) → fine s ≡ false → pair b k s ≡ s
   unfolding fine pair _must_else_place_
@@ -63,18 +66,23 @@ module _ (b : List ℕ) where
   unfolding goals
   goals-start = refl
 
-  goals-next : (g at : ℕ) → at ≡ placeAfter b g → goals b g Fine ≡ Fine → goals b (g + 1) Fine ≡ goal b at Fine
+  -- the goal that comes after the first g goals: where it starts, the ground set before it, and the variables met before it
+  abbrev pub At : ℕ → ℕ → ℕ → ℕ → Type 0
+  At g at before met = (at ≡ placeAfter b g) × (before ≡ groundBefore b g) × (met ≡ metBefore b g)
+
+  goals-next : (g at before met : ℕ) → At g at before met → goals b g Fine ≡ Fine → goals b (g + 1) Fine ≡ goal b at before met Fine
   unfolding goals
-  goals-next g at e h = rw (add-one, h, e)
+  goals-next g at before met (e, eb, em) h = rw (add-one, h, e, eb, em)
 
-  pub goals-go : (g at : ℕ) → at ≡ placeAfter b g → goals b g Fine ≡ Fine → goalFine b at ≡ true → goals b (g + 1) Fine ≡ Fine
+  pub goals-go : (g at before met : ℕ) → At g at before met → goals b g Fine ≡ Fine → goalFine b at before met ≡ true → goals b (g + 1) Fine ≡ Fine
   unfolding goalFine
-  goals-go g at e h t = goals-next g at e h ∙ fine-is _ t
+  goals-go g at before met e h t = goals-next g at before met e h ∙ fine-is _ t
 
-  pub goals-stop : (g n at : ℕ) → g < n → at ≡ placeAfter b g → goals b g Fine ≡ Fine → goalFine b at ≡ false → goal b at Fine ≡ ending b (goals b n Fine)
+  pub goals-stop : (g n at before met : ℕ) → g < n → At g at before met → goals b g Fine ≡ Fine → goalFine b at before met ≡ false
+      → goal b at before met Fine ≡ ending b (goals b n Fine)
   unfolding goalFine
-  goals-stop g n at l e h t =
-      let last = goals-next g at e h in
+  goals-stop g n at before met l e h t =
+      let last = goals-next g at before met e h in
       let bad = ap fine last ∙ t in
       let z : n ≡ n - (g + 1) + (g + 1) = omega arith in
       sym (ap (λ (n : ℕ). ending b (goals b n Fine)) z ∙ ap (ending b) (goals-stay (n - (g + 1)) (g + 1) Fine bad) ∙ ending-stays _ bad ∙ last)
@@ -101,9 +109,9 @@ module _ (b : List ℕ) where
   unfolding headerFine reading readingOf
   header-go h = sym (ap (λ (s : Reading). ending b (goals b (goalCount b) s)) (fine-is _ h))
 
-  pub header-stop : headerFine b ≡ false → header versionOne b ≡ reading b
+  pub header-stop : headerFine b ≡ false → header knownVersion b ≡ reading b
   unfolding headerFine reading readingOf goals
   header-stop h =
       let n = goalCount b in
       let z : n ≡ n + 0 = omega arith in
-      sym (ap (λ (k : ℕ). ending b (goals b k (header versionOne b))) z ∙ ap (ending b) (goals-stay n 0 (header versionOne b) h) ∙ ending-stays _ h)
+      sym (ap (λ (k : ℕ). ending b (goals b k (header knownVersion b))) z ∙ ap (ending b) (goals-stay n 0 (header knownVersion b) h) ∙ ending-stays _ h)

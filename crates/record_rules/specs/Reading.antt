@@ -1,5 +1,6 @@
--- Reading a clause record (01, "Reading the record, which starts every operation"): one line for each sentence, in the paper's order. The first refusal wins.
-use mathlib.Core.Bool.{Bool, true, false, _&&_, cond}
+-- Reading a clause record (01, "Reading the record, which starts every operation"; 02, 1: the refusals 18 and 19): one line for each sentence, in the paper's
+-- order. The first refusal wins.
+use mathlib.Core.Bool.{Bool, true, false, _&&_, _||_, cond}
 use mathlib.Core.List.{List}
 use Prim.Native.Nat.{ℕ, zero, suc, _+_}
 use lib.Dec.{eqb, ltb, leb}
@@ -7,7 +8,8 @@ use lib.ListN.{length}
 use Rattle.sets.specs.Sets.{goalLimit, variableLimit, within, subset}
 use Rattle.record_rules.specs.declared.Reading.{Reading}
 use Rattle.record_rules.specs.declared.Reading.the-variants.{Fine, Refused}
-use Rattle.record_fields.specs.Fields.{byte, number, set, mark, letters, version, goalCount, varCount, pairCount, headSet, groundSet, headerSize, lengthAt, textAt, textLengthAt, goalEnd, placeAfter, pairAt}
+use Rattle.record_fields.specs.Facts.{groundPlace, ticksPlace, groundOf, ticksOf, groundBefore, metBefore}
+use Rattle.record_fields.specs.Fields.{byte, number, set, mark, letters, version, versionOne, versionTwo, goalCount, varCount, pairCount, headSet, groundSet, headerSize, lengthAt, textAt, textLengthAt, goalEnd, placeAfter, pairAt}
 
 infixl 20 _must_else_place_
 -- Reading so far, and one thing more that must hold: else refusal k at a place. The first refusal stays.
@@ -62,13 +64,26 @@ firstBad b at (suc k) = cond (isTextByte (byte b at)) (firstBad b (suc at) k) at
 abbrev pub badText : List ℕ → ℕ → ℕ
 badText b at = firstBad b (textAt b at) (textLengthAt b at)
 
+-- 02, 1: "a goal's ground set that lacks a variable of the previous one (the header's for goal 1) or has one outside the head and earlier goals" is refused: it
+-- keeps the variables of `before`, and stays inside `met`
+abbrev pub grows : ℕ → ℕ → ℕ → Bool
+grows before met ground = subset before ground && subset ground met
+
+-- 02, 1: "a 16-bit tick count, 1 to 60,000"
+abbrev pub tickLimit : ℕ
+tickLimit = 60000
+
 -- 01: "For each goal in turn: 7 its nine fixed bytes are incomplete (the record length, as for every 7); 8 a bit at or above v (start of its set); 9 length
--- (the length byte); 7 text incomplete; 9 the first bad text byte". The goal starts at a place.
-unfoldable pub goal : List ℕ → ℕ → Reading → Reading
-goal b at s =
+-- (the length byte); 7 text incomplete; 9 the first bad text byte". 02, 1: "The fixed part of a version 2 goal is 19 bytes for refusal 7"; "18, after 8";
+-- "19, after 18, ticks outside 1 to 60,000; place of each, its field". The goal starts at a place; `before` is the ground set of the previous goal, `met` has
+-- the variables of the head and earlier goals.
+unfoldable pub goal : List ℕ → ℕ → ℕ → ℕ → Reading → Reading
+goal b at before met s =
     s
     must leb (textAt b at) (length b) else 7 place length b
     must within (varCount b) (set b at) else 8 place at
+    must grows before met (groundOf b at) else 18 place groundPlace at
+    must between 1 tickLimit (ticksOf b at) else 19 place ticksPlace at
     must between 1 textLimit (textLengthAt b at) else 9 place lengthAt b at
     must leb (goalEnd b at) (length b) else 7 place length b
     must eqb (badText b at) (goalEnd b at) else 9 place badText b at
@@ -76,7 +91,7 @@ goal b at s =
 -- the first g goals, in turn
 unfoldable pub goals : List ℕ → ℕ → Reading → Reading
 goals b zero s = s
-goals b (suc g) s = goal b (placeAfter b g) (goals b g s)
+goals b (suc g) s = goal b (placeAfter b g) (groundBefore b g) (metBefore b g) (goals b g s)
 
 -- "lower then higher", and "below v"
 unfoldable pub ordered : List ℕ → ℕ → Bool
@@ -111,12 +126,9 @@ ending b s = end b (pairs b (pairCount b) s)
 unfoldable pub readingOf : (ℕ → Bool) → List ℕ → Reading
 readingOf isVersion b = ending b (goals b (goalCount b) (header isVersion b))
 
--- 01: "version, 1"
-abbrev pub versionNumber : ℕ
-versionNumber = 1
-
-unfoldable pub versionOne : ℕ → Bool
-versionOne v = eqb v versionNumber
+-- 02, 1: "Version 1 is still read"; "Refusal 3 now means neither version"
+unfoldable pub knownVersion : ℕ → Bool
+knownVersion v = eqb v versionOne || eqb v versionTwo
 
 unfoldable pub reading : List ℕ → Reading
-reading b = readingOf versionOne b
+reading b = readingOf knownVersion b

@@ -9,8 +9,8 @@ use lib.Dec.{eqb, ltb}
 use lib.Pow.{pow-lt}
 use borrow.Author.Tests.{lt-ltb, le-ltb, ltb-true, eq-eqb, eqb-true}
 use Rattle.logic.proofs.Bools.{iff, and-l, and-r, and-i, or-elim, is-false}
-use Rattle.sets.specs.Sets.{has, union, meet, without, single, setOf}
-use Rattle.sets.proofs.Membership.{has-union, has-meet, has-without, has-single, has-empty, member-below, below-of, ext}
+use Rattle.sets.specs.Sets.{has, union, meet, without, single, below, within, subset, setOf}
+use Rattle.sets.proofs.Membership.{has-union, has-meet, has-without, has-single, has-empty, has-below, subset-has, has-subset, within-lt, lt-within, member-below, below-of, ext}
 
 -- ---- bounds
 
@@ -20,6 +20,13 @@ single-lt w i h = pow-lt h
 -- a set whose members are all below w
 pub members-lt : (w m : ℕ) → ((i : ℕ) → has m i ≡ true → i < w) → m < 2 ^ w
 members-lt w m h = below-of w m (λ i l. is-false (has m i) (λ e. absurd (omega (arith, h i e))))
+
+-- inside the set of the numbers below v
+pub subset-below : (v m : ℕ) → subset m (below v) ≡ within v m
+subset-below v m =
+    iff (subset m (below v)) (within v m)
+    (λ e. lt-within v m (members-lt v m (λ i h. ltb-true i v (sym (has-below v i) ∙ subset-has m (below v) e i h))))
+    (λ e. has-subset m (below v) (λ i h. has-below v i ∙ lt-ltb i v (member-below v m i (within-lt v m e) h)))
 
 pub union-lt : (w a b : ℕ) → a < 2 ^ w → b < 2 ^ w → union a b < 2 ^ w
 union-lt w a b ha hb =

@@ -20,6 +20,8 @@ fn main() {
     print_sheet(b"refused-9.lfj");
     print_sheet(b"refused-10.lfj");
     print_sheet(b"refused-11.lfj");
+    print_sheet(b"refused-18.lfj");
+    print_sheet(b"refused-19.lfj");
     print_sheet(b"no-form.lfj");
     print_sheet(b"longest.lfj");
     print_sheet(b"longest-and-one.lfj");

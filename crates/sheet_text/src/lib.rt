@@ -78,12 +78,13 @@ fn put_goals(out: &mut [u8], at: usize, bytes: &[u8]) -> usize
     ensures { λ r. ⌜ Wrote (S.goalLines (S.goalText (now (bytes .entry))) (F.goalCount (now (bytes .entry)))) at (now (out .entry)) r (now (out .exit)) ⌝ }
 {
     let n = record_fields::goal_count(bytes);
+    let own = record_fields::own_facts(bytes);
     let mut o = at;
     let mut place: usize = record_fields::HEADER;
     let mut g: usize = 0;
     while g < n {
-        let start = record_fields::text_at(bytes, place);
-        let end = record_fields::goal_end(bytes, place);
+        let start = record_fields::text_at(bytes, place, own);
+        let end = record_fields::goal_end(bytes, place, own);
         o = put_goal(out, o, g + 1, &bytes[start..end]);
         place = end;
         g += 1;

@@ -11,8 +11,9 @@ use Rattle.graph.specs.Graph.{goalsOf, rowsOf}
 use Rattle.buffer.specs.Text.{only, joinFrom, nonEmpty}
 use Rattle.buffer.specs.Decimal.{decimal, decimalTo}
 use Rattle.buffer.specs.Lent.{fits, stored}
-use Rattle.record_fields.specs.Fields.{number, placeAfter, goalSet, listed, goalCount}
-use Rattle.record_rules.specs.Reading.{_must_else_place_, counts, header, firstBad, goal, goals, ordered, ascends, pair, pairs, ending, readingOf, versionOne, reading}
+use Rattle.record_fields.specs.Fields.{number, ownFacts, lengthAt, placeAfter, goalSet, listed, goalCount}
+use Rattle.record_fields.specs.Facts.{groundOf, ticksOf, groundBefore, metBefore, groundAt}
+use Rattle.record_rules.specs.Reading.{_must_else_place_, counts, header, firstBad, goal, goals, ordered, ascends, pair, pairs, ending, readingOf, knownVersion, reading}
 use Rattle.independence.specs.Independence.{knownIndependent, independent}
 use Rattle.order.specs.Order.{waits, before}
 use Rattle.graph.specs.Closure.{closed}
@@ -37,8 +38,8 @@ pub waits-few
     × Has (waiting 3 (1 then 2 ∷ 2 then 3 ∷ [])) (asked (1 then 2 ∷ 2 then 3 ∷ []))
     × Has (waiting 3 []) (asked [])
     × Has two (asked (1 then 2 ∷ []))
-unfolding every someBelow has setOf within subset tableFrom goalsOf rowsOf number placeAfter goalSet listed _must_else_place_ counts header firstBad goal goals ordered
-    ascends pair pairs ending readingOf versionOne reading knownIndependent independent waits
+unfolding every someBelow has setOf within subset tableFrom goalsOf rowsOf number ownFacts lengthAt placeAfter groundOf ticksOf groundBefore metBefore groundAt goalSet listed _must_else_place_ counts header firstBad goal goals ordered
+    ascends pair pairs ending readingOf knownVersion reading knownIndependent independent waits
 waits-few = (
   record { fine = refl; rows = refl },
   record { fine = refl; rows = refl },
@@ -48,47 +49,47 @@ waits-few = (
 )
 
 pub waits-n : Has (waiting 4 (1 then 3 ∷ 2 then 3 ∷ 2 then 4 ∷ [])) (asked (1 then 3 ∷ 2 then 3 ∷ 2 then 4 ∷ []))
-unfolding every someBelow has setOf within subset tableFrom goalsOf rowsOf number placeAfter goalSet listed _must_else_place_ counts header firstBad goal goals ordered
-    ascends pair pairs ending readingOf versionOne reading knownIndependent independent waits
+unfolding every someBelow has setOf within subset tableFrom goalsOf rowsOf number ownFacts lengthAt placeAfter groundOf ticksOf groundBefore metBefore groundAt goalSet listed _must_else_place_ counts header firstBad goal goals ordered
+    ascends pair pairs ending readingOf knownVersion reading knownIndependent independent waits
 waits-n = record { fine = refl; rows = refl }
 
 pub waits-turned : Has (waiting 4 (1 then 3 ∷ 1 then 4 ∷ 2 then 4 ∷ [])) (asked (1 then 3 ∷ 1 then 4 ∷ 2 then 4 ∷ []))
-unfolding every someBelow has setOf within subset tableFrom goalsOf rowsOf number placeAfter goalSet listed _must_else_place_ counts header firstBad goal goals ordered
-    ascends pair pairs ending readingOf versionOne reading knownIndependent independent waits
+unfolding every someBelow has setOf within subset tableFrom goalsOf rowsOf number ownFacts lengthAt placeAfter groundOf ticksOf groundBefore metBefore groundAt goalSet listed _must_else_place_ counts header firstBad goal goals ordered
+    ascends pair pairs ending readingOf knownVersion reading knownIndependent independent waits
 waits-turned = record { fine = refl; rows = refl }
 
 pub waits-chain : Has (waiting 4 (1 then 3 ∷ 2 then 3 ∷ 2 then 4 ∷ 3 then 4 ∷ [])) (asked (1 then 3 ∷ 2 then 3 ∷ 2 then 4 ∷ 3 then 4 ∷ []))
-unfolding every someBelow has setOf within subset tableFrom goalsOf rowsOf number placeAfter goalSet listed _must_else_place_ counts header firstBad goal goals ordered
-    ascends pair pairs ending readingOf versionOne reading knownIndependent independent waits
+unfolding every someBelow has setOf within subset tableFrom goalsOf rowsOf number ownFacts lengthAt placeAfter groundOf ticksOf groundBefore metBefore groundAt goalSet listed _must_else_place_ counts header firstBad goal goals ordered
+    ascends pair pairs ending readingOf knownVersion reading knownIndependent independent waits
 waits-chain = record { fine = refl; rows = refl }
 
 -- In the clause of document 003 each goal waits for every earlier one.
 pub waits-four : Has four (asked (1 then 2 ∷ 1 then 3 ∷ 1 then 4 ∷ 2 then 3 ∷ 2 then 4 ∷ 3 then 4 ∷ []))
-unfolding every someBelow has setOf within subset tableFrom goalsOf rowsOf number placeAfter goalSet listed _must_else_place_ counts header firstBad goal goals ordered
-    ascends pair pairs ending readingOf versionOne reading knownIndependent independent waits
+unfolding every someBelow has setOf within subset tableFrom goalsOf rowsOf number ownFacts lengthAt placeAfter groundOf ticksOf groundBefore metBefore groundAt goalSet listed _must_else_place_ counts header firstBad goal goals ordered
+    ascends pair pairs ending readingOf knownVersion reading knownIndependent independent waits
 waits-four = record { fine = refl; rows = refl }
 
 -- A shared ground variable makes no wait.
 pub waits-shared : Has shared (asked [])
-unfolding every someBelow has setOf within subset tableFrom goalsOf rowsOf number placeAfter goalSet listed _must_else_place_ counts header firstBad goal goals ordered
-    ascends pair pairs ending readingOf versionOne reading knownIndependent independent waits
+unfolding every someBelow has setOf within subset tableFrom goalsOf rowsOf number ownFacts lengthAt placeAfter groundOf ticksOf groundBefore metBefore groundAt goalSet listed _must_else_place_ counts header firstBad goal goals ordered
+    ascends pair pairs ending readingOf knownVersion reading knownIndependent independent waits
 waits-shared = record { fine = refl; rows = refl }
 
 annotations
     : (mel four ≡ bytes "(ground(v0)=>1&2),(indep(v0,v1),indep(v0,v2)=>3&4)")
     × (mel shared ≡ bytes "(1&2)")
-unfolding someBelow has decimal decimalTo only joinFrom nonEmpty number placeAfter goalSet listed knownIndependent S.goal S.someGoal S.thoseFrom S.goalsFrom S.occurs S.shared
+unfolding someBelow has decimal decimalTo only joinFrom nonEmpty number ownFacts lengthAt placeAfter groundOf ticksOf groundBefore metBefore groundAt goalSet listed knownIndependent S.goal S.someGoal S.thoseFrom S.goalsFrom S.occurs S.shared
     S.across S.firstIn S.met S.boundary S.largest S.start S.stagesTo S.stages S.groundCheck S.indepCheck S.indepsFrom S.checks S.checkText S.checksFrom S.arrowIf
     S.goalsText S.stageText S.stagesText S.melText factsOf mel
 annotations = (refl, refl)
 
 refusals : (read (waiting 0 []) ≡ refused 4 5) × (read (waiting 33 []) ≡ refused 4 5)
-unfolding number _must_else_place_ counts header goal goals pair pairs ending readingOf versionOne reading readThen read
+unfolding number ownFacts lengthAt placeAfter groundOf ticksOf groundBefore metBefore _must_else_place_ counts header goal goals pair pairs ending readingOf knownVersion reading readThen read
 refusals = (refl, refl)
 
 verdicts : (check two (bytes "((1)),2") ≡ accepted same) × (check two (bytes "2&1") ≡ accepted (differs 1 2))
-unfolding every someBelow has within subset number placeAfter goalSet listed _must_else_place_ counts header firstBad goal goals ordered ascends pair pairs ending
-    readingOf versionOne reading knownIndependent independent waits before readText firstDiffer checked readThen check
+unfolding every someBelow has within subset number ownFacts lengthAt placeAfter groundOf ticksOf groundBefore metBefore groundAt goalSet listed _must_else_place_ counts header firstBad goal goals ordered ascends pair pairs ending
+    readingOf knownVersion reading knownIndependent independent waits before readText firstDiffer checked readThen check
 verdicts = (refl, refl)
 
 -- what the waits settle

@@ -2,7 +2,14 @@
 //! clauses that are hardest on an annotator.
 
 use crate::Refusal;
-use crate::record::scan;
+use crate::record::{TICK_LIMIT, scan};
+
+/// What is known just left of a goal, and how long it takes.
+#[derive(Clone, Copy, PartialEq, Eq, Debug)]
+pub struct Facts {
+    pub ground: u64,
+    pub ticks: u16,
+}
 
 /// The parts of a record.
 #[derive(Clone, Default, PartialEq, Eq, Debug)]
@@ -12,19 +19,26 @@ pub struct Parts {
     pub ground: u64,
     /// Each goal's variable set and text.
     pub goals: Vec<(u64, Vec<u8>)>,
+    /// The facts at each goal, which make a record of version 2; none in version 1.
+    pub facts: Vec<Facts>,
     /// Variables known independent, lower then higher.
     pub pairs: Vec<(u8, u8)>,
 }
 
 impl Parts {
-    /// The record of version 1.
+    /// The record: of version 2 if there are facts at the goals, else of version 1.
     pub fn record(&self) -> Vec<u8> {
-        let mut bytes = b"LFJ\0\x01".to_vec();
+        let mut bytes = b"LFJ\0".to_vec();
+        bytes.push(if self.facts.is_empty() { 1 } else { 2 });
         bytes.extend([self.goals.len() as u8, self.variables, self.pairs.len() as u8]);
         bytes.extend(self.head.to_be_bytes());
         bytes.extend(self.ground.to_be_bytes());
-        for (set, text) in &self.goals {
+        for (at, (set, text)) in self.goals.iter().enumerate() {
             bytes.extend(set.to_be_bytes());
+            if let Some(facts) = self.facts.get(at) {
+                bytes.extend(facts.ground.to_be_bytes());
+                bytes.extend(facts.ticks.to_be_bytes());
+            }
             bytes.push(text.len() as u8);
             bytes.extend(text);
         }
@@ -37,12 +51,18 @@ impl Parts {
     /// The parts of a record that reading accepts.
     pub fn of(record: &[u8]) -> Result<Parts, Refusal> {
         let mut parts = Parts::default();
-        let (goals, pairs) = (&mut parts.goals, &mut parts.pairs);
+        let (goals, facts, pairs) = (&mut parts.goals, &mut parts.facts, &mut parts.pairs);
         let header = scan(
             record,
-            |_, set, place, length| goals.push((set, record[place..place + length].to_vec())),
+            |goal| {
+                goals.push((goal.set, record[goal.text..goal.text + goal.length].to_vec()));
+                facts.push(Facts { ground: goal.ground, ticks: goal.ticks });
+            },
             |lower, higher| pairs.push((lower as u8, higher as u8)),
         )?;
+        if !header.wide {
+            facts.clear();
+        }
         (parts.variables, parts.head, parts.ground) = (record[6], header.head, header.ground);
         Ok(parts)
     }
@@ -54,8 +74,25 @@ impl Parts {
             head: if variables >= 64 { u64::MAX } else { (1 << variables) - 1 },
             ground: 0,
             goals: sets.iter().enumerate().map(|(i, s)| (*s, name(i + 1))).collect(),
-            pairs: Vec::new(),
+            ..Parts::default()
         }
+    }
+
+    /// The clause as a record of version 2, with these ground sets at its goals and 1 tick each.
+    /// A goal for which none is given has that of the goal before it, the first one the header's.
+    pub fn knowing(mut self, grounds: &[u64]) -> Parts {
+        let mut ground = self.ground;
+        self.facts.clear();
+        for at in 0..self.goals.len() {
+            ground = grounds.get(at).copied().unwrap_or(ground);
+            self.facts.push(Facts { ground, ticks: 1 });
+        }
+        self
+    }
+
+    /// The ground set just left of a goal, numbered from 0.
+    pub fn ground_at(&self, goal: usize) -> u64 {
+        self.facts.get(goal).map_or(self.ground, |facts| facts.ground)
     }
 
     /// A clause of `goals` goals in which just the listed goals wait, earlier then later:
@@ -83,13 +120,21 @@ impl Parts {
         parts
     }
 
-    /// The longest record, 2,102 bytes: 32 texts of 40 bytes and 255 pairs. Its form is the
-    /// longest one.
+    /// The longest record of version 1, 2,102 bytes: 32 texts of 40 bytes and 255 pairs. Its
+    /// form is the longest one.
     pub fn longest_record() -> Parts {
         let mut parts = Parts::longest_form();
         parts.goals.iter_mut().for_each(|goal| goal.1 = vec![b'~'; 40]);
         parts.variables = 64;
         parts.pairs.extend((33..48).map(|higher| (32, higher)));
+        parts
+    }
+
+    /// The longest record of all, 2,422 bytes: the same clause in version 2. No variable is
+    /// ground anywhere, and each goal takes the most ticks.
+    pub fn longest_wide_record() -> Parts {
+        let mut parts = Parts::longest_record().knowing(&[]);
+        parts.facts.iter_mut().for_each(|facts| facts.ticks = TICK_LIMIT);
         parts
     }
 

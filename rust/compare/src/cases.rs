@@ -4,6 +4,9 @@
 use crate::sheet::sheet;
 use crate::{Order, Refusal, Verdict};
 
+/// The field K: how many change requests have landed.
+pub const LANDED: u8 = 1;
+
 /// The operations of the paper, as a case calls them.
 pub trait Annotator {
     fn read(&self, record: &[u8]) -> Result<u32, Refusal>;
@@ -115,7 +118,7 @@ pub fn answer(annotator: &impl Annotator, question: &str) -> Result<String, Stri
     let field = |at: usize| words.get(at).copied().ok_or(format!("too short: {question}"));
     let bytes = |at: usize| unhex(field(at)?);
     let number = |at: usize| field(at)?.parse::<u32>().map_err(|e| format!("{e}: {question}"));
-    if field(1)? != "0" {
+    if field(1)? != LANDED.to_string() {
         return Ok("skip".to_string());
     }
     let record = bytes(2)?;

@@ -1,10 +1,13 @@
 //! Records from a description in plain text, and back. `samples/README.md` explains the
 //! lines.
 
-use crate::build::Parts;
+use crate::build::{Facts, Parts};
+use crate::record::TICK_LIMIT;
 use std::fmt::Write;
 
-const KEYWORDS: &str = "variables, head, ground, goal, independent, byte, cut, more";
+const KEYWORDS: &str = "version, variables, head, ground, goal, independent, byte, cut, more";
+/// What cannot name a variable, since it means something else beside names.
+const SIGNS: [&str; 3] = ["|", "ticks", "ground"];
 
 /// What is wrong with a description: line number, from 1, and words.
 pub type Fault = (usize, String);
@@ -24,10 +27,21 @@ enum Change {
     More(Vec<u8>),
 }
 
+/// What a line `goal` says of its facts.
+struct Stated {
+    line: usize,
+    ticks: Option<u16>,
+    ground: Option<u64>,
+}
+
 #[derive(Default)]
 struct Reader {
+    /// As a line `version` says it.
+    version: Option<u8>,
     names: Vec<String>,
     parts: Parts,
+    /// One for each goal.
+    stated: Vec<Stated>,
     changes: Vec<(usize, Change)>,
     faults: Vec<Fault>,
     line: usize,
@@ -74,6 +88,11 @@ impl Reader {
         }
         let words: Vec<&str> = words.collect();
         match keyword {
+            "version" => match words[..] {
+                ["1"] => self.version = Some(1),
+                ["2"] => self.version = Some(2),
+                _ => self.fault("version 1 or version 2"),
+            },
             "variables" => self.declare(&words),
             "head" => self.parts.head |= self.set(&words),
             "ground" => {
@@ -98,8 +117,8 @@ impl Reader {
                     for name in names {
                         if self.names.contains(&name) {
                             self.fault(format!("variable {name} is named twice"));
-                        } else if name == "|" {
-                            self.fault("a variable cannot be called |");
+                        } else if SIGNS.contains(&name.as_str()) {
+                            self.fault(format!("a variable cannot be called {name}"));
                         } else if let Some(("v", number)) = numbered(&name)
                             && number != self.names.len()
                         {
@@ -140,9 +159,11 @@ impl Reader {
     }
 
     fn goal(&mut self, words: &[&str]) {
-        let Some((text, variables)) = words.split_first() else {
+        let Some((text, rest)) = words.split_first() else {
             return self.fault("a goal needs a text: goal TEXT VARIABLE..");
         };
+        let own = rest.iter().position(|word| ["ticks", "ground"].contains(word));
+        let (variables, facts) = rest.split_at(own.unwrap_or(rest.len()));
         if let Some(sign) = text.chars().find(|sign| !('!'..='~').contains(sign)) {
             self.fault(format!("the goal's text has `{sign}`; only the signs ! to ~ are allowed"));
         }
@@ -151,9 +172,84 @@ impl Reader {
         }
         let set = self.set(variables);
         self.parts.goals.push((set, text.bytes().take(40).collect()));
+        self.facts(facts);
         if self.parts.goals.len() == 33 {
             self.fault("this is goal 33, 32 is the most");
         }
+    }
+
+    /// What stands behind a goal's variables: `ticks NUMBER`, `ground NAME..`.
+    fn facts(&mut self, mut words: &[&str]) {
+        let mut stated = Stated { line: self.line, ticks: None, ground: None };
+        while let Some((keyword, rest)) = words.split_first() {
+            let next = rest.iter().position(|word| ["ticks", "ground"].contains(word));
+            let (own, more) = rest.split_at(next.unwrap_or(rest.len()));
+            words = more;
+            if *keyword == "ground" {
+                if stated.ground.is_some() {
+                    self.fault("`ground` stands twice at this goal");
+                }
+                let faults = self.faults.len();
+                let set = self.set(own);
+                // A name that is unknown is said once.
+                stated.ground = (self.faults.len() == faults).then_some(set);
+                continue;
+            }
+            if stated.ticks.is_some() {
+                self.fault("`ticks` stands twice at this goal");
+            }
+            stated.ticks = Some(1);
+            match own {
+                [number] => match number.parse::<u64>() {
+                    Ok(ticks) if (1..=TICK_LIMIT as u64).contains(&ticks) => {
+                        stated.ticks = Some(ticks as u16);
+                    }
+                    Ok(ticks) => {
+                        self.fault(format!("{ticks} ticks; a goal has 1 to {TICK_LIMIT}"));
+                    }
+                    Err(_) => self.fault(format!("`{number}` is no number of ticks")),
+                },
+                _ => self.fault("one number stands behind `ticks`; variables come before it"),
+            }
+        }
+        self.stated.push(stated);
+    }
+
+    /// The facts of a record of version 2. A ground set that is not stated is the one before.
+    fn resolve(&mut self) {
+        let stated = std::mem::take(&mut self.stated);
+        let any = stated.iter().find(|goal| goal.ticks.is_some() || goal.ground.is_some());
+        match (self.version, any) {
+            (None, None) | (Some(1), None) => return,
+            (Some(1), Some(goal)) => {
+                self.line = goal.line;
+                return self.fault("ticks and ground sets at goals need `version 2`");
+            }
+            _ => (),
+        }
+        let (mut ground, mut met) = (self.parts.ground, self.parts.head);
+        for (at, goal) in stated.iter().enumerate() {
+            self.line = goal.line;
+            let here = goal.ground.unwrap_or(ground);
+            if let Some(name) = self.first_name(ground & !here) {
+                self.fault(format!(
+                    "{name} is ground already before this goal, so `ground` has to name it too"
+                ));
+            }
+            if let Some(name) = self.first_name(here & !met) {
+                self.fault(format!(
+                    "{name} cannot be ground here: it is in neither the head nor an earlier goal"
+                ));
+            }
+            self.parts.facts.push(Facts { ground: here, ticks: goal.ticks.unwrap_or(1) });
+            ground |= here;
+            met |= self.parts.goals[at].0;
+        }
+    }
+
+    /// The name of a set's first variable.
+    fn first_name(&self, set: u64) -> Option<String> {
+        self.names.get(set.trailing_zeros() as usize).cloned()
     }
 
     fn independent(&mut self, words: &[&str]) {
@@ -224,6 +320,7 @@ impl Reader {
             self.fault("there is no line `goal`, and a clause has at least one");
         }
         self.parts.variables = self.names.len() as u8;
+        self.resolve();
         let mut record = self.parts.record();
         for (line, change) in std::mem::take(&mut self.changes) {
             self.line = line;
@@ -236,6 +333,7 @@ impl Reader {
             }
         }
         if !self.faults.is_empty() {
+            self.faults.sort_by_key(|fault| fault.0);
             return Err(self.faults);
         }
         Ok(Described { names: self.names, record })
@@ -265,6 +363,9 @@ fn listed(set: u64) -> String {
 /// A record's description, variables being called v0, v1 and so on.
 pub fn write(parts: &Parts) -> String {
     let mut text = String::new();
+    if !parts.facts.is_empty() {
+        text += "version 2\n";
+    }
     if parts.variables > 0 {
         let all = if parts.variables == 64 { u64::MAX } else { (1 << parts.variables) - 1 };
         let _ = writeln!(text, "variables{}", listed(all));
@@ -275,8 +376,19 @@ pub fn write(parts: &Parts) -> String {
     if parts.ground != 0 {
         let _ = writeln!(text, "ground{}", listed(parts.ground));
     }
-    for (set, name) in &parts.goals {
-        let _ = writeln!(text, "goal {}{}", String::from_utf8_lossy(name), listed(*set));
+    let mut ground = parts.ground;
+    for (at, (set, name)) in parts.goals.iter().enumerate() {
+        let _ = write!(text, "goal {}{}", String::from_utf8_lossy(name), listed(*set));
+        if let Some(facts) = parts.facts.get(at) {
+            if facts.ticks != 1 {
+                let _ = write!(text, " ticks {}", facts.ticks);
+            }
+            if facts.ground != ground {
+                let _ = write!(text, " ground{}", listed(facts.ground));
+            }
+            ground = facts.ground;
+        }
+        text.push('\n');
     }
     for lower in 0..64 {
         let higher = parts.pairs.iter().filter(|pair| pair.0 == lower);

@@ -1,6 +1,7 @@
 //! Seeded records, texts and damage, for tests and for the kit.
 
 use crate::build::Parts;
+use crate::record::TICK_LIMIT;
 
 /// A generator of pseudo-random numbers: the same seed gives the same numbers.
 #[derive(Clone, Debug)]
@@ -301,7 +302,7 @@ fn in_stages(random: &mut Random) -> Parts {
     parts
 }
 
-/// A well-formed record's parts.
+/// The parts of a well-formed record of version 1.
 pub fn parts(random: &mut Random) -> Parts {
     let mut parts = match random.below(20) {
         0..=4 => with_form(random),
@@ -321,6 +322,86 @@ pub fn parts(random: &mut Random) -> Parts {
         parts.ground |= parts.head & random.word() & random.word() & random.word();
     }
     parts
+}
+
+/// Makes the clause one of version 2: ground sets that grow from goal to goal, and ticks.
+fn with_facts(random: &mut Random, parts: Parts) -> Parts {
+    let often = random.pick(&[1, 4, 12]);
+    let (mut ground, mut met) = (parts.ground, parts.head);
+    let mut grounds = Vec::new();
+    for (set, _) in &parts.goals {
+        if random.chance(often, 16) {
+            ground |= met
+                & match random.below(4) {
+                    0 => random.word(),
+                    1 => random.word() & random.word() & random.word(),
+                    2 => set & random.word(),
+                    _ => 1 << random.below(64),
+                };
+        }
+        grounds.push(ground);
+        met |= set;
+    }
+    let mut parts = parts.knowing(&grounds);
+    for facts in &mut parts.facts {
+        facts.ticks = match random.below(4) {
+            0 => 1,
+            1 => TICK_LIMIT,
+            2 => random.between(1, 300) as u16,
+            _ => random.between(1, TICK_LIMIT as usize) as u16,
+        };
+    }
+    parts
+}
+
+/// The parts of a well-formed record, of version 1 or 2.
+pub fn clause(random: &mut Random) -> Parts {
+    let parts = parts(random);
+    if random.chance(1, 2) { with_facts(random, parts) } else { parts }
+}
+
+/// The record of the parts with something wrong in it, or almost wrong.
+pub fn damaged(random: &mut Random, parts: &Parts) -> Vec<u8> {
+    if !parts.facts.is_empty() && random.chance(1, 2) {
+        return with_damaged_facts(random, parts);
+    }
+    let mut record = parts.record();
+    damage(random, &mut record);
+    record
+}
+
+/// Spoils what only version 2 has.
+fn with_damaged_facts(random: &mut Random, parts: &Parts) -> Vec<u8> {
+    let mut parts = parts.clone();
+    let goal = random.below(parts.goals.len());
+    let met = parts.goals[..goal].iter().fold(parts.head, |met, (set, _)| met | set);
+    let before = if goal == 0 { parts.ground } else { parts.facts[goal - 1].ground };
+    let facts = &mut parts.facts[goal];
+    match random.below(10) {
+        // A variable of the ground set before it is lacking.
+        0 => facts.ground &= !(before & before.wrapping_neg()),
+        1 => facts.ground &= !before | random.word(),
+        2 => parts.ground |= parts.head & random.word(),
+        // One is in neither the head nor an earlier goal, or no variable of the record.
+        3 => facts.ground |= !met & random.word() & random.word(),
+        4 => facts.ground |= parts.goals[goal].0,
+        5 => facts.ground |= 1 << (parts.variables % 64),
+        6 => facts.ticks = 0,
+        7 => facts.ticks = random.between(TICK_LIMIT as usize + 1, 65_535) as u16,
+        // The record ends within the goal's fixed part or a little behind it.
+        8 => {
+            let texts: usize = parts.goals[..goal].iter().map(|goal| goal.1.len()).sum();
+            let mut record = parts.record();
+            record.truncate(24 + 19 * goal + texts + random.below(22));
+            return record;
+        }
+        _ => {
+            let mut record = parts.record();
+            record[4] = random.pick(&[0, 1, 3, 4, 255]);
+            return record;
+        }
+    }
+    parts.record()
 }
 
 /// Spoils a record: a byte, a field, its end.

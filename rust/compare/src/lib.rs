@@ -1,5 +1,6 @@
-//! A second annotator of half-motif clauses, written by hand from the paper
-//! `01-scope.md` ("01") and apart from the proved one. It is the reference of the
+//! A second annotator of half-motif clauses, written by hand from the papers
+//! `01-scope.md` ("01") and `02-change-requests.md` ("02"), request 1, and apart from the
+//! proved one. It is the reference of the
 //! differential test and the yardstick of the benchmark, so it is fast: goal sets are
 //! `u32`, variable sets `u64`, nothing is allocated, a record is decoded once a call.
 //! With the feature `proved` the proved one can be asked the same questions.
@@ -37,12 +38,12 @@ mod sheet;
 pub use expression::{TEXT_LIMIT, Verdict};
 pub use form::FORM_LIMIT;
 pub use order::Order;
-pub use record::GOAL_LIMIT;
+pub use record::{GOAL_LIMIT, TICK_LIMIT};
 pub use sheet::{INPUT_LIMIT, MEL_LIMIT, sheet};
 
 use record::Clause;
 
-/// An operation turned its input down: 01's number and place; 13 also has its four goals.
+/// An operation turned its input down: the papers' number and place; 13 also has its four goals.
 #[derive(Clone, Copy, PartialEq, Eq, Debug)]
 pub struct Refusal {
     pub number: u8,
@@ -56,10 +57,10 @@ impl Refusal {
     }
 }
 
-/// Reads the record: its goal count, or one of the refusals 1 to 11.
+/// Reads the record: its goal count, or one of the refusals 1 to 11, 18 and 19.
 #[inline(never)]
 pub fn read(bytes: &[u8]) -> Result<u32, Refusal> {
-    record::scan(bytes, |_, _, _, _| (), |_, _| ()).map(|header| header.goals as u32)
+    record::scan(bytes, |_| (), |_, _| ()).map(|header| header.goals as u32)
 }
 
 /// Who waits for whom, before closure: row i - 1 has the goals that wait for goal i.
@@ -108,9 +109,9 @@ pub fn goal_text(bytes: &[u8], goal: u32) -> Result<(u32, u32), Refusal> {
     let mut found = (0, 0);
     let header = record::scan(
         bytes,
-        |number, _, place, length| {
-            if number as u32 + 1 == goal {
-                found = (place as u32, length as u32);
+        |met| {
+            if met.number as u32 + 1 == goal {
+                found = (met.text as u32, met.length as u32);
             }
         },
         |_, _| (),

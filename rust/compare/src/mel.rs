@@ -7,8 +7,8 @@ use crate::record::{Clause, GOAL_LIMIT};
 /// Goals `from` to `to - 1`, numbered from 0, with their checks.
 #[derive(Clone, Copy)]
 struct Stage {
-    from: usize,
-    to: usize,
+    from: u32,
+    to: u32,
     /// The ground checks.
     grounds: u64,
     /// The variables that the independence checks are made of.
@@ -18,10 +18,15 @@ struct Stage {
 impl Stage {
     const NONE: Stage = Stage { from: 0, to: 0, grounds: 0, candidates: 0 };
 
+    #[inline(always)]
+    fn goals(&self) -> std::ops::Range<usize> {
+        self.from as usize..self.to as usize
+    }
+
     /// For each candidate the other candidates of its own goal.
     #[inline(always)]
     fn beside(&self, clause: &Clause, beside: &mut [u64; 64]) {
-        for goal in self.from..self.to {
+        for goal in self.goals() {
             let own = clause.sets[goal & 31] & self.candidates;
             for variable in Members(own) {
                 beside[variable] = own;
@@ -40,11 +45,11 @@ impl Stage {
     fn at_most(&self) -> usize {
         let candidates = self.candidates.count_ones() as usize;
         let pairs = candidates * candidates.saturating_sub(1) / 2;
-        3 * (self.to - self.from) + 4 + 12 * self.grounds.count_ones() as usize + 15 * pairs
+        3 * self.goals().len() + 4 + 12 * self.grounds.count_ones() as usize + 15 * pairs
     }
 
     fn length(&self, clause: &Clause, beside: &mut [u64; 64]) -> usize {
-        let goals: usize = (self.from..self.to).map(|goal| digits(goal + 1) + 1).sum();
+        let goals: usize = self.goals().map(|goal| digits(goal + 1) + 1).sum();
         if self.to - self.from == 1 {
             return goals - 1;
         }
@@ -76,7 +81,7 @@ fn stages(clause: &Clause) -> ([Stage; GOAL_LIMIT], usize) {
     }
     let mut stages = [Stage::NONE; GOAL_LIMIT];
     let mut count = 0;
-    let mut to = clause.goals;
+    let mut to = clause.goals as u32;
     let (mut once, mut twice) = (0, 0);
     for goal in (0..clause.goals).rev() {
         let set = clause.sets[goal & 31];
@@ -90,12 +95,15 @@ fn stages(clause: &Clause) -> ([Stage; GOAL_LIMIT], usize) {
             first & once != 0
         };
         if ends {
-            let known = (clause.head | left_of[goal & 31]) & !clause.ground;
-            let grounds = twice & !clause.ground;
+            // The stage is judged by the ground set at its first goal, this one.
+            let ground = clause.grounds[goal & 31];
+            let known = (clause.head | left_of[goal & 31]) & !ground;
+            let grounds = twice & !ground;
             let candidates = once & !twice & known;
-            stages[count & 31] = Stage { from: goal, to, grounds, candidates };
+            let from = goal as u32;
+            stages[count & 31] = Stage { from, to, grounds, candidates };
             count += 1;
-            to = goal;
+            to = from;
             (once, twice) = (0, 0);
         }
     }
@@ -135,7 +143,7 @@ impl Writer<'_> {
     #[inline(always)]
     fn stage(&mut self, stage: &Stage, clause: &Clause, beside: &mut [u64; 64]) {
         if stage.to - stage.from == 1 {
-            return self.goal(stage.from);
+            return self.goal(stage.from as usize);
         }
         self.byte(b'(');
         let start = self.at;
@@ -164,7 +172,7 @@ impl Writer<'_> {
             self.byte(b'=');
             self.byte(b'>');
         }
-        for goal in stage.from..stage.to {
+        for goal in stage.goals() {
             self.goal(goal);
             self.byte(b'&');
         }

@@ -1,9 +1,10 @@
 //! The waiting order.
 //!
-//! With a(i) the variables of goal i that are not ground, goals i and j are independent
-//! exactly if a(j) lies in the meet, over all x in a(i), of the variables listed with x:
-//! no variable is listed with itself, so a shared one that is not ground falls out too.
-//! One set a goal, found once, then answers for every other goal.
+//! Two goals are judged by the ground set at the earlier one, i. With a the variables of goal i
+//! that are not ground there, a later goal j is independent of it exactly if its variables that
+//! are not ground there lie in the meet, over all x in a, of the variables listed with x: no
+//! variable is listed with itself, so a shared one that is not ground falls out too. So goal i
+//! has one set of variables that tie a later goal to it, found once for all of them.
 
 use crate::numbers::{Members, first_goals};
 use crate::record::{Clause, GOAL_LIMIT};
@@ -15,40 +16,39 @@ pub struct Order {
     pub rows: [u32; GOAL_LIMIT],
 }
 
-/// Each goal's variables that are not ground, and those whose presence makes another wait.
+/// For each goal the variables whose presence makes a later goal wait for it.
 struct Ties {
-    free: [u64; GOAL_LIMIT],
     ties: [u64; GOAL_LIMIT],
-    /// The goals with a variable that is not ground.
+    /// The goals with a variable outside the header's ground set: no other goal waits, or has
+    /// one that waits for it, since a ground set only grows from goal to goal.
     active: u32,
 }
 
 #[inline(always)]
 fn ties(clause: &Clause, from: usize) -> Ties {
-    let mut found = Ties { free: [0; GOAL_LIMIT], ties: [0; GOAL_LIMIT], active: 0 };
+    let mut found = Ties { ties: [0; GOAL_LIMIT], active: 0 };
     for goal in from..clause.goals {
-        let free = clause.sets[goal & 31] & !clause.ground;
+        let (set, ground) = (clause.sets[goal & 31], clause.grounds[goal & 31]);
         let mut independent = u64::MAX;
-        for variable in Members(free) {
+        for variable in Members(set & !ground) {
             independent &= clause.listed[variable];
             if independent == 0 {
                 break;
             }
         }
-        found.free[goal & 31] = free;
-        found.ties[goal & 31] = !independent;
-        found.active |= ((free != 0) as u32) << goal;
+        found.ties[goal & 31] = !(independent | ground);
+        found.active |= ((set & !clause.ground != 0) as u32) << goal;
     }
     found
 }
 
 /// The goals above `goal` that wait for it.
 #[inline(always)]
-fn waiting(ties: &Ties, goal: usize, goals: usize) -> u32 {
+fn waiting(clause: &Clause, ties: &Ties, goal: usize) -> u32 {
     let tie = ties.ties[goal & 31];
     let mut row = 0;
-    for later in goal + 1..goals {
-        row |= ((ties.free[later & 31] & tie != 0) as u32) << later;
+    for later in goal + 1..clause.goals {
+        row |= ((clause.sets[later & 31] & tie != 0) as u32) << later;
     }
     row
 }
@@ -57,12 +57,18 @@ pub fn waits(clause: &Clause) -> Order {
     let ties = ties(clause, 0);
     let mut rows = [0; GOAL_LIMIT];
     for goal in 0..clause.goals {
-        rows[goal & 31] = waiting(&ties, goal, clause.goals);
+        rows[goal & 31] = waiting(clause, &ties, goal);
     }
     Order { goals: clause.goals, rows }
 }
 
-/// Without listed pairs all goals that hold a variable not ground wait for each other.
+/// Without listed pairs and with one ground set for all goals, those that hold a variable not
+/// ground wait for each other.
+#[inline(always)]
+fn is_chain(clause: &Clause) -> bool {
+    clause.pairs == 0 && !clause.wide
+}
+
 #[inline(always)]
 fn chain(active: u32, goal: usize) -> u32 {
     if active >> goal & 1 == 1 { active & (u32::MAX << goal << 1) } else { 0 }
@@ -73,7 +79,7 @@ fn after_from(clause: &Clause, from: usize) -> [u32; GOAL_LIMIT] {
     let ties = ties(clause, from);
     let mut rows = [0; GOAL_LIMIT];
     for goal in (from..clause.goals).rev() {
-        rows[goal & 31] = if clause.pairs == 0 {
+        rows[goal & 31] = if is_chain(clause) {
             chain(ties.active, goal)
         } else {
             // Waits lead from lower to higher numbers, so the later rows are closed already,
@@ -84,7 +90,7 @@ fn after_from(clause: &Clause, from: usize) -> [u32; GOAL_LIMIT] {
             while left != 0 {
                 let next = left.trailing_zeros() as usize;
                 left &= left - 1;
-                if ties.free[next] & tie != 0 {
+                if clause.sets[next] & tie != 0 {
                     row |= rows[next] | 1 << next;
                     left &= !rows[next];
                 }
@@ -113,16 +119,16 @@ pub fn before(clause: &Clause) -> [u32; GOAL_LIMIT] {
     let ties = ties(clause, 0);
     let mut rows = [0; GOAL_LIMIT];
     for goal in 0..clause.goals {
-        let free = ties.free[goal & 31];
-        rows[goal & 31] = if clause.pairs == 0 {
-            if free != 0 { ties.active & first_goals(goal) } else { 0 }
+        let active = ties.active >> goal & 1 == 1;
+        let mut left = if active { ties.active & first_goals(goal) } else { 0 };
+        rows[goal & 31] = if is_chain(clause) {
+            left
         } else {
             let mut row = 0u32;
-            let mut left = if free != 0 { ties.active & first_goals(goal) } else { 0 };
             while left != 0 {
                 let last = 31 - left.leading_zeros() as usize;
                 left ^= 1 << last;
-                if ties.ties[last] & free != 0 {
+                if ties.ties[last] & clause.sets[goal & 31] != 0 {
                     row |= rows[last] | 1 << last;
                     left &= !rows[last];
                 }

@@ -1,4 +1,4 @@
-//! The record of version 1 and the refusals 1 to 11.
+//! The record, versions 1 and 2, and the refusals 1 to 11, 18 and 19.
 
 use crate::Refusal;
 use crate::numbers::first_variables;
@@ -7,16 +7,32 @@ use crate::numbers::first_variables;
 pub const GOAL_LIMIT: usize = 32;
 const VARIABLE_LIMIT: usize = 64;
 const HEADER: usize = 24;
-/// A goal's bytes before its text: the variable set and the length byte.
-const GOAL_FIXED: usize = 9;
 const GOAL_TEXT_LIMIT: usize = 40;
+/// The most ticks of a goal; the least is 1.
+pub const TICK_LIMIT: u16 = 60_000;
 
 /// What stands before the goals.
 pub struct Header {
+    /// Version 2: each goal has a ground set and ticks of its own.
+    pub wide: bool,
     pub goals: usize,
+    pub variables: usize,
     pub pairs: usize,
     pub head: u64,
     pub ground: u64,
+}
+
+/// One goal, as it is met.
+pub struct Goal {
+    /// From 0.
+    pub number: usize,
+    pub set: u64,
+    /// The variables known to be ground just left of the goal.
+    pub ground: u64,
+    pub ticks: u16,
+    /// The place of its text, and the text's length.
+    pub text: usize,
+    pub length: usize,
 }
 
 #[inline(always)]
@@ -47,12 +63,66 @@ fn text_is_good(bytes: &[u8], end: usize, length: usize) -> bool {
     found == 0
 }
 
-/// Reads the record from left to right. Gives each goal (its number from 0, variable set,
-/// text's place and length) and each pair (lower, higher) that is met before a refusal.
+/// The goals of a record; gives the place behind the last one. In version 1, which is not
+/// `WIDE`, a goal has the header's ground set and 1 tick.
+#[inline(always)]
+fn scan_goals<const WIDE: bool>(
+    bytes: &[u8],
+    header: &Header,
+    goal: &mut impl FnMut(Goal),
+) -> Result<usize, Refusal> {
+    // The bytes of a goal before its text: the variable set, in version 2 the ground set and
+    // the ticks, and the length byte.
+    let fixed = if WIDE { 19 } else { 9 };
+    let end = bytes.len();
+    let outside = !first_variables(header.variables);
+    let mut place = HEADER;
+    // The ground set left of the goal before, and the variables of the head and earlier goals.
+    let (mut ground, mut met, mut ticks) = (header.ground, header.head, 1);
+    for number in 0..header.goals {
+        if end - place < fixed {
+            return Err(Refusal::at(7, end));
+        }
+        let set = number_at(bytes, place);
+        if set & outside != 0 {
+            return Err(Refusal::at(8, place));
+        }
+        if WIDE {
+            let here = number_at(bytes, place + 8);
+            if ground & !here | here & !met != 0 {
+                return Err(Refusal::at(18, place + 8));
+            }
+            ticks = u16::from_be_bytes([bytes[place + 16], bytes[place + 17]]);
+            if ticks.wrapping_sub(1) >= TICK_LIMIT {
+                return Err(Refusal::at(19, place + 16));
+            }
+            ground = here;
+            met |= set;
+        }
+        let text = place + fixed;
+        let length = bytes[text - 1] as usize;
+        if length == 0 || length > GOAL_TEXT_LIMIT {
+            return Err(Refusal::at(9, text - 1));
+        }
+        place = text + length;
+        if place > end {
+            return Err(Refusal::at(7, end));
+        }
+        if !text_is_good(bytes, place, length) {
+            let good = bytes[text..place].iter().take_while(|byte| (33..=126).contains(*byte));
+            return Err(Refusal::at(9, text + good.count()));
+        }
+        goal(Goal { number, set, ground, ticks, text, length });
+    }
+    Ok(place)
+}
+
+/// Reads the record from left to right. Gives each goal and each pair (lower, higher) that is
+/// met before a refusal.
 #[inline(always)]
 pub fn scan(
     bytes: &[u8],
-    mut goal: impl FnMut(usize, u64, usize, usize),
+    mut goal: impl FnMut(Goal),
     mut pair: impl FnMut(usize, usize),
 ) -> Result<Header, Refusal> {
     let end = bytes.len();
@@ -62,7 +132,8 @@ pub fn scan(
     if bytes[..3] != *b"LFJ" {
         return Err(Refusal::at(2, 0));
     }
-    if bytes[3..5] != [0, 1] {
+    let wide = bytes[3..5] == [0, 2];
+    if !wide && bytes[3..5] != [0, 1] {
         return Err(Refusal::at(3, 3));
     }
     let (goals, variables, pairs) = (bytes[5] as usize, bytes[6] as usize, bytes[7] as usize);
@@ -72,38 +143,18 @@ pub fn scan(
     if variables > VARIABLE_LIMIT {
         return Err(Refusal::at(5, 6));
     }
-    let outside = !first_variables(variables);
     let (head, ground) = (number_at(bytes, 8), number_at(bytes, 16));
-    if head & outside != 0 {
+    if head & !first_variables(variables) != 0 {
         return Err(Refusal::at(6, 8));
     }
     if ground & !head != 0 {
         return Err(Refusal::at(6, 16));
     }
-    let mut place = HEADER;
-    for number in 0..goals {
-        if end - place < GOAL_FIXED {
-            return Err(Refusal::at(7, end));
-        }
-        let set = number_at(bytes, place);
-        if set & outside != 0 {
-            return Err(Refusal::at(8, place));
-        }
-        let length = bytes[place + 8] as usize;
-        if length == 0 || length > GOAL_TEXT_LIMIT {
-            return Err(Refusal::at(9, place + 8));
-        }
-        let text = place + GOAL_FIXED;
-        place = text + length;
-        if place > end {
-            return Err(Refusal::at(7, end));
-        }
-        if !text_is_good(bytes, place, length) {
-            let good = bytes[text..place].iter().take_while(|byte| (33..=126).contains(*byte));
-            return Err(Refusal::at(9, text + good.count()));
-        }
-        goal(number, set, text, length);
-    }
+    let header = Header { wide, goals, variables, pairs, head, ground };
+    let mut place = match wide {
+        true => scan_goals::<true>(bytes, &header, &mut goal)?,
+        false => scan_goals::<false>(bytes, &header, &mut goal)?,
+    };
     let mut last = -1;
     for _ in 0..pairs {
         if end - place < 2 {
@@ -121,17 +172,21 @@ pub fn scan(
     if place < end {
         return Err(Refusal::at(11, place));
     }
-    Ok(Header { goals, pairs, head, ground })
+    Ok(header)
 }
 
 /// A record's content.
 pub struct Clause {
+    pub wide: bool,
     pub goals: usize,
     pub pairs: usize,
     pub head: u64,
+    /// The header's ground set: the least of all.
     pub ground: u64,
     /// Each goal's variables.
     pub sets: [u64; GOAL_LIMIT],
+    /// The ground set just left of each goal.
+    pub grounds: [u64; GOAL_LIMIT],
     /// For each variable those that a listed pair joins it to. Not itself.
     pub listed: [u64; VARIABLE_LIMIT],
 }
@@ -140,16 +195,20 @@ impl Clause {
     #[inline(always)]
     pub fn read(bytes: &[u8]) -> Result<Clause, Refusal> {
         let mut sets = [0; GOAL_LIMIT];
+        let mut grounds = [0; GOAL_LIMIT];
         let mut listed = [0; VARIABLE_LIMIT];
         let header = scan(
             bytes,
-            |number, set, _, _| sets[number & 31] = set,
+            |goal| {
+                sets[goal.number & 31] = goal.set;
+                grounds[goal.number & 31] = goal.ground;
+            },
             |lower, higher| {
                 listed[lower & 63] |= 1 << (higher & 63);
                 listed[higher & 63] |= 1 << (lower & 63);
             },
         )?;
-        let Header { goals, pairs, head, ground } = header;
-        Ok(Clause { goals, pairs, head, ground, sets, listed })
+        let Header { wide, goals, pairs, head, ground, .. } = header;
+        Ok(Clause { wide, goals, pairs, head, ground, sets, grounds, listed })
     }
 }

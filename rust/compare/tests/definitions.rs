@@ -11,13 +11,14 @@ type Relation = BTreeSet<(usize, usize)>;
 
 /// "Otherwise the later goal waits for the earlier one."
 fn waits(parts: &Parts) -> Relation {
-    let ground = |x: usize| parts.ground >> x & 1 == 1;
-    let known = |x: usize, y: usize| {
-        let pair = (x.min(y) as u8, x.max(y) as u8);
-        ground(x) || ground(y) || parts.pairs.contains(&pair)
-    };
     let holds = |goal: usize, x: usize| parts.goals[goal - 1].0 >> x & 1 == 1;
     let independent = |i: usize, j: usize| {
+        // 02: "a pair of goals is judged by the ground set at its earlier goal"
+        let ground = |x: usize| parts.ground_at(i - 1) >> x & 1 == 1;
+        let known = |x: usize, y: usize| {
+            let pair = (x.min(y) as u8, x.max(y) as u8);
+            ground(x) || ground(y) || parts.pairs.contains(&pair)
+        };
         let shared = (0..64).all(|x| !(holds(i, x) && holds(j, x)) || ground(x));
         shared
             && (0..64)
@@ -74,7 +75,7 @@ fn set(variables: u64) -> BTreeSet<usize> {
 /// Section "The MEL annotation", sentence by sentence.
 fn mel(parts: &Parts) -> String {
     let goal = |g: usize| set(parts.goals[g - 1].0);
-    let (head, ground) = (set(parts.head), set(parts.ground));
+    let head = set(parts.head);
     let first = |x: usize, p: usize| goal(p).contains(&x) && (1..p).all(|g| !goal(g).contains(&x));
     let mut stages = Vec::new();
     let mut q = parts.goals.len();
@@ -82,6 +83,8 @@ fn mel(parts: &Parts) -> String {
         let again = |x: usize, p: usize| (p + 1..=q).any(|g| goal(g).contains(&x));
         let ends = |p: usize| (0..64).any(|x| !head.contains(&x) && first(x, p) && again(x, p));
         let p = (1..=q).rev().find(|p| ends(*p)).unwrap_or(0);
+        // 02: "and a MEL stage by that at its first goal"
+        let ground = set(parts.ground_at(p));
         let members: Vec<usize> = (p + 1..=q).collect();
         let often = |x: &usize| members.iter().filter(|g| goal(**g).contains(x)).count() >= 2;
         let grounds: BTreeSet<usize> = (0..64).filter(often).collect();
@@ -209,8 +212,8 @@ fn every_wait_relation_of_up_to_five_goals() {
 #[test]
 fn seeded_clauses() {
     let mut random = Random::new(1);
-    for _ in 0..1500 {
-        let parts = generate::parts(&mut random);
+    for _ in 0..3000 {
+        let parts = generate::clause(&mut random);
         hold(&parts);
         let mut out = vec![0; 200_000];
         let length = compare::mel(&parts.record(), &mut out).unwrap() as usize;
@@ -234,14 +237,7 @@ fn long_annotations() {
         Parts::in_stages(64, &[2; 16], &(49..64).collect::<Vec<u8>>(), false),
         Parts::longest_mel(),
     ];
-    let vectors = include_str!("../../../kit/vectors/base.txt");
-    for line in vectors.lines().filter(|line| line.starts_with("mel ")) {
-        let (question, answer) = line.split_once(" = ").unwrap();
-        if ["refused 12 32768", "refused 12 32769"].contains(&answer) {
-            let record = compare::cases::unhex(question.split(' ').nth(2).unwrap()).unwrap();
-            clauses.push(Parts::of(&record).unwrap());
-        }
-    }
+    clauses.extend(compare::kit::at_the_limit());
     let mut lengths = BTreeSet::new();
     for parts in clauses {
         let record = parts.record();
@@ -278,7 +274,7 @@ fn seeded_expressions() {
         let mut text = Vec::new();
         expression.write(&mut random, 4, &mut text, false);
         let stated: Relation = pairs.iter().copied().collect();
-        let parts = generate::parts(&mut random);
+        let parts = generate::clause(&mut random);
         if parts.goals.len() == goals {
             let order = closed(&waits(&parts));
             let first = stated.symmetric_difference(&order).next();

@@ -1,6 +1,6 @@
 //! Descriptions of records: what they give and how their faults are said.
 
-use compare::build::Parts;
+use compare::build::{Facts, Parts};
 use compare::describe;
 use compare::generate::{self, Random};
 
@@ -34,10 +34,66 @@ independent Z X
 fn every_record_comes_back() {
     let mut random = Random::new(5);
     for _ in 0..500 {
-        let parts = generate::parts(&mut random);
+        let parts = generate::clause(&mut random);
         let described = describe::read(&describe::write(&parts)).unwrap();
         assert_eq!(Parts::of(&described.record), Ok(parts));
     }
+}
+
+#[test]
+fn facts_at_goals() {
+    let parts = |text: &str| Parts::of(&describe::read(text).unwrap().record).unwrap();
+    let clause = "\
+variables X Y Z
+head X Y
+ground X
+goal a X Z ticks 12
+goal b Y ground X Z
+goal c Z Y ground X Z Y ticks 60000
+goal d
+";
+    let facts = |ground, ticks| Facts { ground, ticks };
+    let wide = parts(clause);
+    assert_eq!(wide.facts, [facts(1, 12), facts(5, 1), facts(7, 60_000), facts(7, 1)]);
+    assert_eq!(wide.goals[2], (6, b"c".to_vec()));
+    // The line `version 2` alone makes one too; in version 1 nothing is different from before.
+    assert_eq!(parts("goal a\nversion 2").facts, [facts(0, 1)]);
+    assert_eq!(parts("version 1\ngoal a").facts, []);
+    assert_eq!(describe::read("goal a").unwrap().record.len(), 34);
+    assert_eq!(describe::read("goal a ticks 1").unwrap().record.len(), 44);
+    // The header's ground set may stand behind the goals.
+    assert_eq!(parts("version 2\nvariables X\ngoal a\nhead X\nground X").facts, [facts(1, 1)]);
+}
+
+#[test]
+fn faults_of_facts() {
+    let one = |text: &str| {
+        let faults = faults(text);
+        assert_eq!(faults.len(), 1, "{faults:?}");
+        faults[0].clone()
+    };
+    let fault = |line: usize, words: &str| (line, words.to_string());
+    assert_eq!(one("goal a ticks 0"), fault(1, "0 ticks; a goal has 1 to 60000"));
+    assert_eq!(one("goal a ticks 60001"), fault(1, "60001 ticks; a goal has 1 to 60000"));
+    assert_eq!(one("goal a ticks many"), fault(1, "`many` is no number of ticks"));
+    assert_eq!(one("goal a ticks").0, 1);
+    assert_eq!(one("variables X\ngoal a ticks 3 X").0, 2);
+    assert_eq!(one("goal a ticks 3 ticks 4").0, 1);
+    assert_eq!(one("goal a ground ground").0, 1);
+    assert!(one("goal a ground X").1.starts_with("no variable is called X"));
+    assert_eq!(one("version 3\ngoal a"), fault(1, "version 1 or version 2"));
+    assert_eq!(one("goal a\ngoal b ticks 2\nversion 1").0, 2);
+    assert_eq!(one("variables ticks\ngoal a").1, "a variable cannot be called ticks");
+    let lacking = one("variables X Y\nhead X Y\nground Y\ngoal a ground X");
+    assert_eq!(lacking.0, 4);
+    assert!(lacking.1.starts_with("Y is ground already before this goal"), "{}", lacking.1);
+    // Faults come by their lines.
+    let text = "variables X Y\nhead X\ngoal a X Y ticks 0\ngoal b ground X\ngoal c ground\ngoal d ground Z";
+    assert_eq!(faults(text).iter().map(|fault| fault.0).collect::<Vec<_>>(), [3, 5, 6]);
+    // A goal's own variables are not earlier.
+    let outside = one("variables X\ngoal a X ground X\ngoal b X");
+    assert_eq!(outside.0, 2);
+    assert!(outside.1.starts_with("X cannot be ground here"), "{}", outside.1);
 }
 
 #[test]
@@ -61,7 +117,7 @@ fn faults_have_their_line() {
     };
     let (line, words) = one("variables X\n\ngaol half X\ngoal a");
     assert_eq!(line, 3);
-    assert!(words.starts_with("`gaol` is no keyword; these are: variables,"), "{words}");
+    assert!(words.starts_with("`gaol` is no keyword; these are: version, variables,"), "{words}");
     assert_eq!(one("goal half X").0, 1);
     assert_eq!(one("variables X X\ngoal a"), (1, "variable X is named twice".to_string()));
     assert_eq!(one("variables v1\ngoal a"), (1, "v1 has number 0, so MEL calls it v0".into()));

@@ -1,4 +1,4 @@
-//! 01's drafts and the settled readings, each by its sentence.
+//! 01's drafts, 02's sentences and the settled readings, each by its sentence.
 
 use compare::build::Parts;
 use compare::cases::Reference;
@@ -225,4 +225,91 @@ fn a_refusal_changes_no_byte_and_a_text_only_its_own() {
     assert_eq!(out, [7; 12]);
     assert_eq!(compare::form(&parts.record(), &mut out), Ok(7));
     assert_eq!(&out, b"(1,3)&2\x07\x07\x07\x07\x07");
+}
+
+/// 02, request 1: "a pair of goals is judged by the ground set at its earlier goal, and a MEL
+/// stage by that at its first goal".
+#[test]
+fn facts_at_each_goal() {
+    let known = |grounds: &[u64]| Parts::over(1, &[1, 1, 1]).knowing(grounds);
+    assert_eq!(form_of(&known(&[0, 0, 0])).unwrap(), "1,2,3");
+    assert_eq!(form_of(&known(&[0, 0, 1])).unwrap(), "1,2,3");
+    assert_eq!(form_of(&known(&[0, 1, 1])).unwrap(), "1,(2&3)");
+    assert_eq!(form_of(&known(&[1, 1, 1])).unwrap(), "1&2&3");
+    assert_eq!(mel_of(&known(&[0, 1, 1])), "(ground(v0)=>1&2&3)");
+    assert_eq!(mel_of(&known(&[1, 1, 1])), "(1&2&3)");
+    assert_eq!(check(&known(&[0, 1, 1]), "1,2,3"), Ok(Verdict::Differs(2, 3)));
+    // Two stages: the second begins with goal 2.
+    let stages = |grounds: &[u64]| {
+        let parts = Parts::over(3, &[0b010, 0b011, 0b101]);
+        mel_of(&Parts { head: 0b101, ..parts }.knowing(grounds))
+    };
+    assert_eq!(stages(&[0, 2, 2]), "1,(ground(v0)=>2&3)");
+    assert_eq!(stages(&[0, 0, 2]), "1,(ground(v0),indep(v1,v2)=>2&3)");
+}
+
+/// 02, request 1: "Version 1 is still read: every goal has the header's ground set and 1 tick."
+#[test]
+fn version_2_with_the_facts_of_version_1() {
+    let mut parts = Parts::over(2, &[0b11, 0b01, 0b10]);
+    parts.ground = 0b01;
+    let wide = parts.clone().knowing(&[]);
+    assert_eq!(wide.record().len(), parts.record().len() + 30);
+    assert_eq!(form_of(&wide), form_of(&parts));
+    assert_eq!(mel_of(&wide), mel_of(&parts));
+    assert_eq!(Parts::of(&wide.record()), Ok(wide.clone()));
+    for version in [0, 3, 255] {
+        let mut record = wide.record();
+        record[4] = version;
+        assert_eq!(compare::read(&record), Err(refusal(3, 3)));
+    }
+}
+
+#[test]
+fn refusals_of_version_2() {
+    let read = |parts: &Parts| compare::read(&parts.record());
+    let clause = Parts::over(2, &[0b01, 0b10]).knowing(&[0b00, 0b01]);
+    assert_eq!(read(&clause), Ok(2));
+    // "lacks a variable of the previous one (the header's for goal 1)"
+    assert_eq!(read(&Parts { ground: 0b10, ..clause.clone() }), Err(refusal(18, 32)));
+    let mut lacking = clause.clone();
+    lacking.facts[0].ground = 0b10;
+    assert_eq!(read(&lacking), Err(refusal(18, 53)));
+    // "or has one outside the head and earlier goals": a goal's own variables are not earlier.
+    let head = |head| Parts { head, ..clause.clone() };
+    assert_eq!(read(&head(0b00)), Ok(2));
+    let mut own = head(0b00);
+    own.facts[0].ground = 0b01;
+    assert_eq!(read(&own), Err(refusal(18, 32)));
+    own.facts[0].ground = 0;
+    own.facts[1].ground = 0b10;
+    assert_eq!(read(&own), Err(refusal(18, 53)));
+    // A ground bit at or above v is 18, never 8.
+    own.facts[1].ground = 1 << 63;
+    assert_eq!(read(&own), Err(refusal(18, 53)));
+    // "19, after 18, ticks outside 1 to 60,000"
+    for ticks in [0, 1, 60_000, 60_001, 65_535] {
+        let mut timed = clause.clone();
+        timed.facts[1].ticks = ticks;
+        let wanted = if (1..=60_000).contains(&ticks) { Ok(2) } else { Err(refusal(19, 61)) };
+        assert_eq!(read(&timed), wanted);
+        timed.facts[1].ground = 0b11;
+        timed.goals[1].0 = 0b11;
+        assert_eq!(read(&timed), wanted);
+        timed.head = 0b01;
+        assert_eq!(read(&timed), Err(refusal(18, 53)));
+        timed.goals[1].0 = 0b100;
+        assert_eq!(read(&timed), Err(refusal(8, 45)));
+    }
+    // "The fixed part of a version 2 goal is 19 bytes for refusal 7."
+    let record = clause.record();
+    for length in 24..record.len() {
+        assert_eq!(compare::read(&record[..length]), Err(refusal(7, length as u32)));
+    }
+    let mut record = clause.record();
+    record[41] = 0;
+    assert_eq!(compare::read(&record[..42]), Err(refusal(7, 42)));
+    assert_eq!(compare::read(&record[..43]), Err(refusal(19, 40)));
+    assert_eq!(Parts::longest_wide_record().record().len(), 2422);
+    assert_eq!(read(&Parts::longest_wide_record()), Ok(32));
 }

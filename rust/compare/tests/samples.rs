@@ -22,7 +22,7 @@ fn names() -> Vec<String> {
 
 #[test]
 fn each_sample_is_what_its_description_says() {
-    assert_eq!(names().len(), 10);
+    assert_eq!(names().len(), 12);
     let readme = fs::read_to_string(folder().join("README.md")).unwrap();
     for name in names() {
         let file = |end: &str| fs::read(folder().join(format!("{name}.{end}"))).unwrap();

@@ -26,11 +26,33 @@
 //! # Ok(())
 //! # }
 //! ```
+//!
+//! A record of version 2 says for each goal which variables are ground just left of it, and its
+//! ticks. Two goals are judged by the ground set at the earlier one:
+//!
+//! ```
+//! # fn main() -> Result<(), lfj::Refusal> {
+//! // Three goals over v0, which is ground from goal 2 on.
+//! let mut record = b"LFJ\x00\x02\x03\x01\x00\0\0\0\0\0\0\0\x01\0\0\0\0\0\0\0\0".to_vec();
+//! for (ground, ticks, text) in [(0u64, 12u16, "measure"), (1, 300, "left"), (1, 400, "right")] {
+//!     record.extend(1u64.to_be_bytes());
+//!     record.extend(ground.to_be_bytes());
+//!     record.extend(ticks.to_be_bytes());
+//!     record.push(text.len() as u8);
+//!     record.extend(text.bytes());
+//! }
+//! assert_eq!(lfj::form_text(&record)?, "1,(2&3)");
+//! # Ok(())
+//! # }
+//! ```
 
 pub mod c;
 mod refusal;
 
 pub use refusal::Refusal;
+
+/// No record that is accepted is longer, in bytes.
+pub const RECORD_LIMIT: usize = 2422;
 
 /// The longest fork-join expression in house form, in bytes.
 pub const FORM_LIMIT: usize = 146;
@@ -52,7 +74,8 @@ fn accepted(word: u64) -> Result<u64, Refusal> {
 
 /// Reads a record: its goal count.
 ///
-/// Refusals 1 to 11, which every other operation has too.
+/// Of version 1 or 2. Refusals 1 to 11, and 18 and 19 for the facts at a version 2 goal; every
+/// other operation has them too.
 ///
 /// ```
 /// let refusal = lfj::read(b"no record at all, 31 bytes long").unwrap_err();

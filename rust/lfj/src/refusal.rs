@@ -11,7 +11,7 @@ use std::fmt;
 /// ```
 #[derive(Clone, Copy, PartialEq, Eq, Hash, Debug)]
 pub struct Refusal {
-    /// 1 to 17, as the paper numbers them.
+    /// 1 to 19, as the papers number them.
     pub number: u8,
     /// Mostly the place of a byte. A length for 1 (the record's) and 12 (the one needed).
     pub place: u32,
@@ -35,14 +35,18 @@ impl fmt::Display for Refusal {
         match number {
             1 => write!(f, "the record has {place} bytes, fewer than the 24 of its header")?,
             2 => write!(f, "the record does not start with the letters LFJ")?,
-            3 => write!(f, "the record's version, bytes 3 and 4, is not 1")?,
+            3 => write!(f, "the record's version, bytes 3 and 4, is neither 1 nor 2")?,
             4 => write!(f, "the goal count, byte 5, is not 1 to 32")?,
             5 => write!(f, "the variable count, byte 6, is above 64")?,
             6 if place == 8 => {
                 write!(f, "the head set, bytes 8 to 15, has a variable at or above the count")?
             }
             6 => write!(f, "the ground set, bytes 16 to 23, has a variable outside the head")?,
-            7 => write!(f, "the record ends too early, after {place} bytes")?,
+            7 => write!(
+                f,
+                "the record ends too early, after {place} bytes: within a goal's fixed part \
+                 (9 bytes, in version 2 19), its text or a pair"
+            )?,
             8 => write!(
                 f,
                 "the goal at byte {place} of the record has a variable at or above the count"
@@ -72,6 +76,12 @@ impl fmt::Display for Refusal {
                 "at byte {place} of the expression's text stands a number that is no goal \
                  or was met before, or the text ends there and a goal is missing"
             )?,
+            18 => write!(
+                f,
+                "the ground set at byte {place} of the record lacks a variable of the one before \
+                 it, or has one that is in neither the head nor an earlier goal"
+            )?,
+            19 => write!(f, "the ticks at byte {place} of the record are not 1 to 60000")?,
             _ => write!(f, "at {place}, for a reason that this version does not know")?,
         }
         write!(f, " (refusal {number})")
@@ -87,7 +97,7 @@ mod tests {
     #[test]
     fn every_number_has_words_of_its_own() {
         let mut seen = Vec::new();
-        for number in 1..=17 {
+        for number in 1..=19 {
             let words = Refusal { number, place: 8, goals: [1, 2, 3, 4] }.to_string();
             assert!(words.ends_with(&format!(" (refusal {number})")), "{words}");
             assert!(!words.contains("does not know"), "{words}");

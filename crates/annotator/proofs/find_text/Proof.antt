@@ -27,17 +27,23 @@ goal-place-requires c κs =
     let r = in-range b g w (tested b g (c .before .inside .ensures) (c .if1 .taken) (c .before .before .goal-count .ensures .0)) in
     (omega arith, omega arith)
 
+own-facts-requires : tie.Need-own-facts-requires
+own-facts-requires c κs = search needs
+
 text-at-requires : tie.Need-text-at-requires
-text-at-requires c κs = omega (arith, c .goal-place .ensures .1)
+text-at-requires c κs = (omega (arith, c .before .goal-place .ensures .1), c .own-facts .ensures)
 
 text-length-at-requires : tie.Need-text-length-at-requires
-text-length-at-requires c κs = omega (arith, c .before .goal-place .ensures .1)
+text-length-at-requires c κs = (omega (arith, c .before .before .goal-place .ensures .1), c .before .own-facts .ensures)
 
 returns : tie.Need-returns
 returns c =
-    let b = c .before .before .before .before .before .before .before .before .before .before .args .bytes .now in
-    let g = c .before .before .before .before .before .before .before .before .before .before .args .goal in
-    text-at b g (c .before .before .before .before .before .before .before .before .read .ensures) (c .before .before .before .before .before .before .enum-told .given .1) (tested b g (c .before .before .before .before .inside .ensures) (c .before .before .before .if1 .taken) (c .before .before .before .before .before .goal-count .ensures .0)) (c .before .before .goal-place .ensures .0) (c .before .text-at .ensures) (c .text-length-at .ensures .0)
+    let s = c .before .before .before .before .before .before .before .before .before .before .before in
+    let i = c .before .before .before .before in
+    let b = s .args .bytes .now in
+    let g = s .args .goal in
+    text-at b g (c .before .before .before .before .before .before .before .before .before .read .ensures) (c .before .before .before .before .before .before .before .enum-told .given .1) (tested b g (i .before .inside .ensures) (i .if1 .taken) (i .before .before .goal-count .ensures .0))
+    (c .before .before .before .goal-place .ensures .0) (c .before .text-at .ensures .0) (c .text-length-at .ensures .0)
 
 returns-2 : tie.Need-returns-2
 returns-2 c = text-refused _ _ _ (c .before .before .before .read .ensures) (c .before .r .given .1)
@@ -58,6 +64,7 @@ find-text-spec =
     goal-count-requires
     inside-requires
     goal-place-requires
+    own-facts-requires
     text-at-requires
     text-length-at-requires
     returns

@@ -15,7 +15,7 @@ size-of-requires : tie.Need-size-of-requires
 size-of-requires c κs = search needs
 
 returns : tie.Need-returns
-returns c = let b = now (c .before .before .before .before .args .b) in (c .size-of .ensures .0 ∙ c .before .byte .ensures ∙ ap (F.byte b) (c .before .before .length-at .ensures), c .size-of .ensures .1)
+returns c = let b = now (c .before .before .before .before .args .b) in (c .size-of .ensures .0 ∙ c .before .byte .ensures ∙ ap (F.byte b) (c .before .before .length-at .ensures .0), c .size-of .ensures .1)
 
 pub text-length-at-spec : {M : Type 1} → statement M
 text-length-at-spec =

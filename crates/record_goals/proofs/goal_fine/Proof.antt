@@ -1,5 +1,7 @@
+use native.Mathlib.Omega.{arith}
 use borrow.Author.Needs.{needs}
 use denote.Ref.{now}
+use Rattle.record_fields.proofs.Facts.{length-between}
 use Rattle.record_goals.proofs.GoalSteps.{goal-whole, goal-cut}
 use Rattle.record_goals.proofs.goal_fine.Statement.{statement}
 use Rattle.record_goals.proofs.goal_fine.Tie as tie
@@ -11,10 +13,17 @@ add-if1 : tie.Need-add-if1
 add-if1 c = search needs
 
 whole-set-requires : tie.Need-whole-set-requires
-whole-set-requires c κs = search needs
+whole-set-requires c κs =
+    let a = c .before .before .before .args in
+    omega (arith, c .if1 .taken, c .before .text-at .ensures .0, length-between (now (a .b)) (a .at))
 
-within-requires : tie.Need-within-requires
-within-requires c κs = search needs
+subset-requires : tie.Need-subset-requires
+subset-requires c κs = search needs
+
+facts-fine-requires : tie.Need-facts-fine-requires
+facts-fine-requires c κs =
+    let p = c .before .before .before .before .before .pre in
+    (omega (arith, c .before .before .if1 .taken, c .before .before .before .text-at .ensures .0), p .0, p .4, p .5)
 
 length-fine-requires : tie.Need-length-fine-requires
 length-fine-requires c κs = search needs
@@ -24,16 +33,16 @@ clean-requires c κs = search needs
 
 returns : tie.Need-returns
 returns c =
-    let a = c .before .before .before .before .before .before .before .args in
-    let p = c .before .before .before .before .before .before .before .pre in
-    goal-whole (now (a .b)) (a .at) (a .v) (a .k) _ (p .2) (p .3) (c .before .before .before .before .before .text-at .ensures) _ _ _ _ (c .before .before .before .before .if1 .taken) (c .before .before .before .whole-set .ensures) (c .before .before .within .ensures) (c .before .length-fine .ensures)
-    (c .clean .ensures)
+    let s = c .before .before .before .before .before .before .before .before in
+    let a = s .args in
+    goal-whole (now (a .b)) (a .at) (a .k) _ (a .before) (a .met) (s .pre .3) (c .before .before .before .before .before .before .text-at .ensures .0) _ _ _ _ _ _ (c .before .before .before .before .before .if1 .taken)
+    (c .before .before .before .before .whole-set .ensures) (s .pre .2) (c .before .before .before .subset .ensures) (c .before .before .facts-fine .ensures) (c .before .length-fine .ensures) (c .clean .ensures)
 
 returns-2 : tie.Need-returns-2
 returns-2 c =
-    let a = c .before .before .before .args in
-    let p = c .before .before .before .pre in
-    goal-cut (now (a .b)) (a .at) (a .v) (a .k) _ (p .2) (p .3) (c .before .text-at .ensures) (c .if1 .left)
+    let s = c .before .before .before in
+    let a = s .args in
+    goal-cut (now (a .b)) (a .at) (a .k) _ (a .before) (a .met) (s .pre .3) (c .before .text-at .ensures .0) (c .if1 .left)
 
 pub goal-fine-spec : {M : Type 1} → statement M
 goal-fine-spec =
@@ -42,7 +51,8 @@ goal-fine-spec =
     text-at-requires
     add-if1
     whole-set-requires
-    within-requires
+    subset-requires
+    facts-fine-requires
     length-fine-requires
     clean-requires
     returns

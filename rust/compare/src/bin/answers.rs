@@ -8,7 +8,7 @@
 //! the `sheet` questions go to that program's standard input; else the sheet is put together
 //! from the other operations' answers.
 
-use compare::cases::{Reference, answer, hex, unhex};
+use compare::cases::{LANDED, Reference, answer, hex, unhex};
 use compare::proved::Proved;
 use std::io::{BufRead, Write};
 use std::process::{Command, ExitCode, Stdio};
@@ -37,7 +37,7 @@ fn main() -> ExitCode {
     let mut out = std::io::stdout().lock();
     for question in std::io::stdin().lock().lines() {
         let question = question.expect("standard input is text");
-        let given = match (&sheet, question.strip_prefix("sheet 0 ")) {
+        let given = match (&sheet, question.strip_prefix(&format!("sheet {LANDED} "))) {
             (Some(program), Some(input)) => unhex(input).and_then(|input| {
                 let text = printed(program, &input).map_err(|e| format!("{program}: {e}"))?;
                 Ok(format!("ok {}", hex(&text)))

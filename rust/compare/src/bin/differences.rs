@@ -9,7 +9,7 @@
 //! Ends with status 0 if there is no difference and every refusal, verdict, form and no
 //! form was met.
 
-use compare::cases::{Annotator, Reference, answer, hex, refused, unhex};
+use compare::cases::{Annotator, LANDED, Reference, answer, hex, refused, unhex};
 use compare::generate::{self, Random};
 use compare::proved::{Proved, check_word, text_word, word};
 use compare::{FORM_LIMIT, Refusal, Verdict};
@@ -53,7 +53,9 @@ const MEL: Writer = Writer {
 struct Met {
     records: usize,
     accepted: usize,
-    refusals: [usize; 18],
+    /// Accepted ones of version 2.
+    wide: usize,
+    refusals: [usize; 20],
     same: usize,
     differs: usize,
     form: usize,
@@ -70,12 +72,13 @@ impl Met {
     /// Prints all counts; gives the names of those that are 0.
     fn print(&self) -> Vec<String> {
         let mut all = vec![
+            ("version 2".to_string(), self.wide),
             ("form".to_string(), self.form),
             ("no form".to_string(), self.no_form),
             ("same".to_string(), self.same),
             ("differs".to_string(), self.differs),
         ];
-        for number in 1..=17 {
+        for number in 1..=19 {
             all.push((format!("refusal {number}"), self.refusals[number]));
         }
         println!("records {:>20}", self.records);
@@ -137,7 +140,7 @@ impl Run {
         self.hand_buffer[..all].fill(byte);
         let proved = (writer.proved)(record, &mut self.proved_buffer[MARGIN..MARGIN + room]);
         let hand = (writer.hand)(record, &mut self.hand_buffer[MARGIN..MARGIN + room]);
-        let question = || format!("{} 0 {} {room}", writer.name, hex(record));
+        let question = || format!("{} {LANDED} {} {room}", writer.name, hex(record));
         let answer = self.hold(proved, hand, question);
         let (start, n) = (record.as_ptr(), record.len());
         // SAFETY: the pointers are those of slices, and the buffer is a vector of its own.
@@ -157,25 +160,26 @@ impl Run {
     }
 
     fn case(&mut self, random: &mut Random) {
-        let parts = generate::parts(random);
-        let mut record = parts.record();
-        if random.chance(3, 8) {
-            generate::damage(random, &mut record);
-        }
+        let parts = generate::clause(random);
+        let record = match random.chance(3, 8) {
+            true => generate::damaged(random, &parts),
+            false => parts.record(),
+        };
         let goals = parts.goals.len() as u32;
         let record = &record[..];
         let read = self.hold(Proved.read(record), Reference.read(record), || {
-            format!("read 0 {}", hex(record))
+            format!("read {LANDED} {}", hex(record))
         });
         // SAFETY, here and below: a slice's pointer is not null and its bytes may be read.
         let (start, n) = (record.as_ptr(), record.len());
         let given = unsafe { c::lfj_read(start, n) };
-        self.hold_word(given, word(read), || format!("read 0 {}", hex(record)));
+        self.hold_word(given, word(read), || format!("read {LANDED} {}", hex(record)));
         self.met.records += 1;
         self.met.accepted += read.is_ok() as usize;
+        self.met.wide += (read.is_ok() && record[4] == 2) as usize;
         for _ in 0..3 {
             let goal = goal_number(random, goals);
-            let question = |name: &str| format!("{name} 0 {} {goal}", hex(record));
+            let question = |name: &str| format!("{name} {LANDED} {} {goal}", hex(record));
             let (proved, hand) = (Proved.after(record, goal), Reference.after(record, goal));
             let answer = self.hold(proved, hand, || question("after"));
             let given = unsafe { c::lfj_after(start, n, goal) };
@@ -192,7 +196,7 @@ impl Run {
         for _ in 0..2 {
             let text = generate::text(random, goals as usize, &form);
             let (proved, hand) = (Proved.check(record, &text), Reference.check(record, &text));
-            let question = || format!("check 0 {} {}", hex(record), hex(&text));
+            let question = || format!("check {LANDED} {} {}", hex(record), hex(&text));
             let answer = self.hold(proved, hand, question);
             let given = unsafe { c::lfj_check(start, n, text.as_ptr(), text.len()) };
             self.hold_word(given, check_word(answer), question);
@@ -228,12 +232,12 @@ impl Run {
             _ => proved == hand,
         };
         if !right {
-            let question = format!("length 0 {}", hex(record));
+            let question = format!("length {LANDED} {}", hex(record));
             self.report(question, format!("{proved:?}"), format!("{least} to 160 or {hand:?}"));
         }
         // SAFETY: a slice's pointer is not null and its bytes may be read.
         let given = unsafe { c::lfj_form_length(record.as_ptr(), record.len()) };
-        self.hold_word(given, word(proved), || format!("length 0 {}", hex(record)));
+        self.hold_word(given, word(proved), || format!("length {LANDED} {}", hex(record)));
     }
 
     fn mel(&mut self, random: &mut Random, record: &[u8]) {
@@ -348,7 +352,7 @@ fn one(question: &str) -> ExitCode {
 }
 
 fn usage() -> ExitCode {
-    eprintln!("usage: differences [CASES [SEED]] | differences --case 'OPERATION 0 INPUT..'");
+    eprintln!("usage: differences [CASES [SEED]] | differences --case 'OPERATION 1 INPUT..'");
     ExitCode::from(2)
 }
 

@@ -7,7 +7,7 @@
 //! ```
 
 use compare::build::Parts;
-use compare::generate::{Random, padded, parts};
+use compare::generate::{Random, clause, padded};
 use lfj::c;
 use std::hint::black_box;
 use std::time::{Duration, Instant};
@@ -160,6 +160,11 @@ fn nested(goals: u8) -> Parts {
     parts
 }
 
+/// The variables of every fourth goal up to this one, which is numbered from 0.
+fn growing_ground(goal: usize) -> u64 {
+    (3..=goal as u32).step_by(4).fold(0, |set, variable| set | 1 << variable)
+}
+
 fn lines() -> Vec<Line> {
     let mut lines = Vec::new();
     for operation in ALL {
@@ -182,12 +187,32 @@ fn lines() -> Vec<Line> {
         let goals = input.record[5] as usize;
         lines.push(Line { operation, goals, clause: clause.to_string(), input });
     };
+    // The same clauses in version 2: with the header's facts at each goal, and with the variable
+    // of every fourth goal ground from that goal on.
+    let growing = |parts: Parts| {
+        let grounds: Vec<u64> = (0..parts.goals.len()).map(growing_ground).collect();
+        parts.knowing(&grounds)
+    };
+    for operation in ALL {
+        more(operation, "version 2, with a form", input(&nested(32).knowing(&[]), None, 1 << 16));
+        more(operation, "version 2, ground sets grow", input(&growing(nested(32)), None, 1 << 16));
+    }
+    let without = Parts::without_form(32).knowing(&[]);
+    for operation in [&READ, &AFTER, &FORM, &MEL] {
+        more(operation, "version 2, without a form", input(&without, None, 1 << 16));
+    }
     let longest = Parts::longest_record();
-    more(&READ, "the longest record", input(&longest, None, 0));
-    more(&AFTER, "the longest record", input(&longest, None, 0));
-    more(&TEXT, "the longest record", input(&longest, None, 0));
+    let wide = Parts::longest_wide_record();
+    for operation in [&READ, &AFTER, &TEXT] {
+        more(operation, "the longest record of version 1", input(&longest, None, 0));
+        more(operation, "the longest record of version 2", input(&wide, None, 0));
+    }
     let chain = |goal: u32| 3 << goal;
     let shared = Parts::over(64, &(0..32).map(chain).collect::<Vec<u64>>());
+    for operation in [&AFTER, &FORM] {
+        let wide = shared.clone().knowing(&[]);
+        more(operation, "version 2, a chain, no facts listed", input(&wide, None, 160));
+    }
     // The second half of the goals have the ground variable 63 alone, and wait for nobody.
     let half = |goal| if goal < 16 { chain(goal) } else { 1 << 63 };
     let mut beside = Parts::over(64, &(0..32).map(half).collect::<Vec<u64>>());
@@ -221,9 +246,9 @@ fn spread(seed: u64, clauses: usize) {
     let mut random = Random::new(seed);
     let mut drawn = Vec::new();
     while drawn.len() < clauses {
-        let clause = parts(&mut random);
-        if compare::read(&clause.record()).is_ok() {
-            drawn.push(clause);
+        let parts = clause(&mut random);
+        if compare::read(&parts.record()).is_ok() {
+            drawn.push(parts);
         }
     }
     for operation in ALL {

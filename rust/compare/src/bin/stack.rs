@@ -43,6 +43,10 @@ fn longest_record() -> Vec<u8> {
     Parts::longest_record().record()
 }
 
+fn longest_wide_record() -> Vec<u8> {
+    Parts::longest_wide_record().record()
+}
+
 fn form_of(record: &[u8]) -> Vec<u8> {
     let mut out = vec![0; lfj::FORM_LIMIT];
     let length = compare::form(record, &mut out).unwrap_or(0);
@@ -51,13 +55,21 @@ fn form_of(record: &[u8]) -> Vec<u8> {
 }
 
 const CALLS: &[Call] = &[
-    ("read, 2,102 bytes", || {
+    ("read, version 1, 2,102 bytes", || {
         let record = longest_record();
         record.len() == 2102 && lfj::read(&record) == Ok(32)
     }),
+    ("read, version 2, 2,422 bytes", || {
+        let record = longest_wide_record();
+        record.len() == 2422 && lfj::read(&record) == Ok(32)
+    }),
     ("after, 32 goals", || lfj::after(&longest_form(), 1) == Ok(u32::MAX - 1)),
     ("after, without a form", || lfj::after(&without_form(), 1) == Ok(u32::MAX - 1)),
+    ("after, version 2, 2,422 bytes", || lfj::after(&longest_wide_record(), 1) == Ok(u32::MAX - 1)),
     ("form, the longest", || lfj::form(&longest_form(), &mut vec![0; 146]) == Ok(146)),
+    ("form, version 2, 2,422 bytes", || {
+        lfj::form(&longest_wide_record(), &mut vec![0; 146]) == Ok(146)
+    }),
     ("form, buffer of 145 bytes", || {
         lfj::form(&longest_form(), &mut vec![0; 145]) == Err(short(146))
     }),
@@ -69,9 +81,13 @@ const CALLS: &[Call] = &[
     }),
     ("form_length, 32 goals without one", || lfj::form_length(&without_form()) == Err(no_form())),
     ("mel, 192,127 bytes", || lfj::mel(&longest_mel(), &mut vec![0; 192_127]) == Ok(192_127)),
+    ("mel, version 2, 192,127 bytes", || {
+        let record = Parts::longest_mel().knowing(&[]).record();
+        lfj::mel(&record, &mut vec![0; 192_127]) == Ok(192_127)
+    }),
     ("mel, buffer of 0 bytes", || lfj::mel(&longest_mel(), &mut []) == Err(short(192_127))),
     ("goal_text, the last of the longest record", || {
-        lfj::goal_text(&longest_record(), 32) == Ok(&[b'~'; 40])
+        lfj::goal_text(&longest_wide_record(), 32) == Ok(&[b'~'; 40])
     }),
     ("check, the longest form", || {
         let record = longest_form();

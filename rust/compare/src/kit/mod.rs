@@ -6,10 +6,13 @@ mod order;
 mod paper;
 mod record;
 mod texts;
+mod version_2;
 
 use crate::build::Parts;
-use crate::cases::{Reference, answer, hex};
+use crate::cases::{LANDED, Reference, answer, hex};
 use std::collections::HashSet;
+
+pub use texts::at_the_limit;
 
 /// The file of one group of cases.
 pub struct File {
@@ -55,59 +58,59 @@ impl Lines {
     }
 
     fn read(&mut self, record: &[u8]) -> String {
-        self.ask(format!("read 0 {}", hex(record)))
+        self.ask(format!("read {LANDED} {}", hex(record)))
     }
 
     fn waits(&mut self, parts: &Parts) {
-        self.ask(format!("waits 0 {}", hex(&parts.record())));
+        self.ask(format!("waits {LANDED} {}", hex(&parts.record())));
     }
 
     fn order(&mut self, parts: &Parts) {
-        self.ask(format!("order 0 {}", hex(&parts.record())));
+        self.ask(format!("order {LANDED} {}", hex(&parts.record())));
     }
 
     fn form(&mut self, parts: &Parts, room: usize) -> String {
-        self.ask(format!("form 0 {} {room}", hex(&parts.record())))
+        self.ask(format!("form {LANDED} {} {room}", hex(&parts.record())))
     }
 
     fn length(&mut self, parts: &Parts) {
-        self.ask(format!("length 0 {}", hex(&parts.record())));
+        self.ask(format!("length {LANDED} {}", hex(&parts.record())));
     }
 
     fn mel(&mut self, parts: &Parts, room: usize) -> String {
-        self.ask(format!("mel 0 {} {room}", hex(&parts.record())))
+        self.ask(format!("mel {LANDED} {} {room}", hex(&parts.record())))
     }
 
     fn goal_text(&mut self, parts: &Parts, goal: u32) {
-        self.ask(format!("text 0 {} {goal}", hex(&parts.record())));
+        self.ask(format!("text {LANDED} {} {goal}", hex(&parts.record())));
     }
 
     fn check(&mut self, parts: &Parts, text: &[u8]) -> String {
-        self.ask(format!("check 0 {} {}", hex(&parts.record()), hex(text)))
+        self.ask(format!("check {LANDED} {} {}", hex(&parts.record()), hex(text)))
     }
 
     fn sheet(&mut self, input: &[u8]) {
-        self.ask(format!("sheet 0 {}", hex(input)));
+        self.ask(format!("sheet {LANDED} {}", hex(input)));
     }
 
     /// The text that a writer gives, with room enough.
     fn expect_form(&mut self, parts: &Parts, text: &str) {
-        let question = format!("form 0 {} 146", hex(&parts.record()));
+        let question = format!("form {LANDED} {} 146", hex(&parts.record()));
         self.expect(question, &format!("ok {} {}", text.len(), hex(text.as_bytes())));
     }
 
     fn expect_mel(&mut self, parts: &Parts, text: &str) {
-        let question = format!("mel 0 {} 400", hex(&parts.record()));
+        let question = format!("mel {LANDED} {} 400", hex(&parts.record()));
         self.expect(question, &format!("ok {} {}", text.len(), hex(text.as_bytes())));
     }
 
     fn expect_check(&mut self, parts: &Parts, text: &str, expected: &str) {
-        let question = format!("check 0 {} {}", hex(&parts.record()), hex(text.as_bytes()));
+        let question = format!("check {LANDED} {} {}", hex(&parts.record()), hex(text.as_bytes()));
         self.expect(question, expected);
     }
 
     fn expect_read(&mut self, record: &[u8], expected: &str) {
-        self.expect(format!("read 0 {}", hex(record)), expected);
+        self.expect(format!("read {LANDED} {}", hex(record)), expected);
     }
 }
 
@@ -146,6 +149,8 @@ pub fn files() -> Vec<File> {
         record::goals(),
         record::pairs(),
         record::which_first(),
+        version_2::record(),
+        version_2::facts(),
         order::two_goals(),
         order::closure(),
         order::forms(),

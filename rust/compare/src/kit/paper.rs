@@ -2,7 +2,7 @@
 
 use super::{Lines, waiting};
 use crate::build::Parts;
-use crate::cases::hex;
+use crate::cases::{LANDED, hex};
 use crate::generate::{self, Random, padded};
 
 /// 01's whole case.
@@ -57,7 +57,7 @@ fn record_readings(lines: &mut Lines) {
     lines.note("a goal number is compared whole (wrong: its low byte or 16 bits)");
     let record = hex(&waiting(3, &[]).record());
     for goal in [0, 4, 256, 257, 259, 65_537, 65_539, 16_777_217, 2_147_483_649, u32::MAX] {
-        lines.expect(format!("text 0 {record} {goal}"), "refused 14 0");
+        lines.expect(format!("text {LANDED} {record} {goal}"), "refused 14 0");
     }
     lines.note("the order has the record's refusals alone (wrong: 13 for a clause without a form)");
     lines.order(&waiting(4, &[(1, 3), (2, 3), (2, 4)]));
@@ -124,10 +124,10 @@ fn form_readings(lines: &mut Lines) {
     lines.expect_form(&ground, "1&2");
     lines.note("13 names the first four by a, then b, c, d, though there are several");
     let several = waiting(6, &[(1, 4), (2, 4), (2, 5), (3, 5), (3, 6)]);
-    lines.expect(format!("form 0 {} 146", hex(&several.record())), &no_form([1, 2, 4, 5]));
-    lines.expect(format!("length 0 {}", hex(&several.record())), &no_form([1, 2, 4, 5]));
+    lines.expect(format!("form {LANDED} {} 146", hex(&several.record())), &no_form([1, 2, 4, 5]));
+    lines.expect(format!("length {LANDED} {}", hex(&several.record())), &no_form([1, 2, 4, 5]));
     lines.note("13 comes before 12");
-    lines.expect(format!("form 0 {} 0", hex(&several.record())), &no_form([1, 2, 4, 5]));
+    lines.expect(format!("form {LANDED} {} 0", hex(&several.record())), &no_form([1, 2, 4, 5]));
     lines.note("only MEL knows first occurrences: head {0}, goals {0}, {1}");
     let mut fresh = Parts::over(2, &[0b01, 0b10]);
     fresh.head = 1;
@@ -136,7 +136,7 @@ fn form_readings(lines: &mut Lines) {
     lines.note("the longest form has 146 bytes");
     let longest = Parts::longest_form();
     assert!(lines.form(&longest, 146).starts_with("ok 146 "));
-    lines.expect(format!("form 0 {} 145", hex(&longest.record())), "refused 12 146");
+    lines.expect(format!("form {LANDED} {} 145", hex(&longest.record())), "refused 12 146");
 }
 
 fn mel_readings(lines: &mut Lines) {
@@ -169,17 +169,19 @@ fn mel_readings(lines: &mut Lines) {
     lines.note("the place of 12 is a full-width number (wrong: 16 bits)");
     let joining: Vec<u8> = (49..64).collect();
     let long = Parts::in_stages(64, &[2; 16], &joining, false);
-    lines.expect(format!("mel 0 {} 0", hex(&long.record())), "refused 12 188354");
+    lines.expect(format!("mel {LANDED} {} 0", hex(&long.record())), "refused 12 188354");
 }
 
 pub(super) fn samples() -> Lines {
-    let mut lines = Lines::new("samples", "The ten samples: what the sheet prints for each.");
+    let mut lines = Lines::new("samples", "The twelve samples: what the sheet prints for each.");
     for (name, text) in [
         ("half-motif", include_str!("../../../../samples/half-motif.txt")),
         ("document-003", include_str!("../../../../samples/document-003.txt")),
         ("no-form", include_str!("../../../../samples/no-form.txt")),
         ("deep-nesting", include_str!("../../../../samples/deep-nesting.txt")),
         ("ground-facts", include_str!("../../../../samples/ground-facts.txt")),
+        ("ground-on-the-way", include_str!("../../../../samples/ground-on-the-way.txt")),
+        ("durations", include_str!("../../../../samples/durations.txt")),
         ("three-stages", include_str!("../../../../samples/three-stages.txt")),
         ("longest-form", include_str!("../../../../samples/longest-form.txt")),
         ("long-mel", include_str!("../../../../samples/long-mel.txt")),
@@ -217,15 +219,17 @@ pub(super) fn mixed() -> Lines {
         }
         let record = hex(&record);
         let question = match case % 8 {
-            0 => format!("order 0 {record}"),
-            1 => format!("form 0 {record} {}", generate::room(&mut random, length)),
-            2 => format!("length 0 {record}"),
-            3 if mel < 1000 => format!("mel 0 {record} {}", generate::room(&mut random, mel)),
-            3 => format!("mel 0 {record} {}", random.below(mel)),
-            4 => format!("text 0 {record} {}", random.below(goals + 2)),
-            5 if mel < 1000 => format!("sheet 0 {record}"),
-            5 => format!("waits 0 {record}"),
-            _ => format!("check 0 {record} {}", hex(&text)),
+            0 => format!("order {LANDED} {record}"),
+            1 => format!("form {LANDED} {record} {}", generate::room(&mut random, length)),
+            2 => format!("length {LANDED} {record}"),
+            3 if mel < 1000 => {
+                format!("mel {LANDED} {record} {}", generate::room(&mut random, mel))
+            }
+            3 => format!("mel {LANDED} {record} {}", random.below(mel)),
+            4 => format!("text {LANDED} {record} {}", random.below(goals + 2)),
+            5 if mel < 1000 => format!("sheet {LANDED} {record}"),
+            5 => format!("waits {LANDED} {record}"),
+            _ => format!("check {LANDED} {record} {}", hex(&text)),
         };
         lines.ask(question);
     }

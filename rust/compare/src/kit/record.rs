@@ -1,11 +1,12 @@
-//! Reading the record: refusals 1 to 11.
+//! Reading the record of version 1: refusals 1 to 11.
 
 use super::paper::whole_case;
 use super::{Lines, waiting};
 use crate::build::Parts;
+use crate::cases::LANDED;
 
 /// The record with one byte changed.
-fn with_byte(record: &[u8], place: usize, value: u8) -> Vec<u8> {
+pub(super) fn with_byte(record: &[u8], place: usize, value: u8) -> Vec<u8> {
     let mut changed = record.to_vec();
     changed[place] = value;
     changed
@@ -24,7 +25,7 @@ pub(super) fn header() -> Lines {
             lines.read(&with_byte(&record, place, value));
         }
     }
-    lines.note("3: version 1, two bytes, the most significant first");
+    lines.note("3: version 1 or 2, two bytes, the most significant first");
     for version in [0u16, 1, 2, 3, 255, 256, 257, 65_535] {
         let mut other = record.clone();
         other[3..5].copy_from_slice(&version.to_be_bytes());
@@ -163,7 +164,7 @@ pub(super) fn pairs() -> Lines {
     lines.read(&record);
     record[7] = 0;
     lines.read(&record);
-    lines.note("the longest record, 2,102 bytes, and one byte more");
+    lines.note("the longest record of version 1, 2,102 bytes, and one byte more");
     let mut record = Parts::longest_record().record();
     assert_eq!(record.len(), 2102);
     lines.read(&record);
@@ -172,10 +173,12 @@ pub(super) fn pairs() -> Lines {
     lines
 }
 
-/// A fault of each refusal, in the paper's order, put into the whole case.
-pub(super) const FAULTS: [(u8, &[(usize, u8)]); 12] = [
+/// A fault of each refusal, in the paper's order, put into the whole case. Its goals are not
+/// those of version 2, which is 18.
+pub(super) const FAULTS: [(u8, &[(usize, u8)]); 13] = [
     (2, &[(1, b'f')]),
-    (3, &[(4, 2)]),
+    (3, &[(4, 3)]),
+    (18, &[(4, 2)]),
     (4, &[(5, 0)]),
     (5, &[(6, 65)]),
     (6, &[(8, 128)]),
@@ -220,14 +223,14 @@ pub(super) fn which_first() -> Lines {
     let bad = with_byte(&record, 34, 32);
     let bad = crate::cases::hex(&bad);
     for question in [
-        format!("waits 0 {bad}"),
-        format!("order 0 {bad}"),
-        format!("form 0 {bad} 0"),
-        format!("length 0 {bad}"),
-        format!("mel 0 {bad} 0"),
-        format!("text 0 {bad} 0"),
-        format!("check 0 {bad} -"),
-        format!("sheet 0 {bad}"),
+        format!("waits {LANDED} {bad}"),
+        format!("order {LANDED} {bad}"),
+        format!("form {LANDED} {bad} 0"),
+        format!("length {LANDED} {bad}"),
+        format!("mel {LANDED} {bad} 0"),
+        format!("text {LANDED} {bad} 0"),
+        format!("check {LANDED} {bad} -"),
+        format!("sheet {LANDED} {bad}"),
     ] {
         lines.ask(question);
     }

@@ -4,7 +4,7 @@ use super::paper::whole_case;
 use super::record::FAULTS;
 use super::{Lines, waiting};
 use crate::build::Parts;
-use crate::cases::{hex, unhex};
+use crate::cases::{LANDED, hex, unhex};
 use crate::generate::Random;
 
 pub(super) fn mel_stages() -> Lines {
@@ -81,17 +81,11 @@ pub(super) fn mel_checks() -> Lines {
     lines
 }
 
-/// The clauses of the vectors whose annotations have 32,768 and 32,769 bytes.
-fn at_the_limit() -> Vec<Parts> {
-    let vectors = include_str!("../../../../kit/vectors/base.txt");
-    let mut found = Vec::new();
-    for wanted in ["refused 12 32768", "refused 12 32769"] {
-        let mut lines = vectors.lines().filter(|line| line.starts_with("mel 0 "));
-        let line = lines.find(|line| line.ends_with(wanted)).expect("a vector");
-        let record = unhex(line.split(' ').nth(2).expect("a record")).expect("hexadecimal");
-        found.push(Parts::of(&record).expect("well formed"));
-    }
-    found
+/// Two clauses whose annotations have 32,768 and 32,769 bytes.
+pub fn at_the_limit() -> Vec<Parts> {
+    let records = include_str!("mel-at-limit.hex").lines();
+    let record = |line| unhex(line).expect("hexadecimal");
+    records.map(|line| Parts::of(&record(line)).expect("well formed")).collect()
 }
 
 pub(super) fn mel_long() -> Lines {
@@ -111,7 +105,7 @@ pub(super) fn mel_long() -> Lines {
     ] {
         for room in [0, 32_768, 65_536, length % 65_536, length - 1] {
             lines.expect(
-                format!("mel 0 {} {room}", hex(&parts.record())),
+                format!("mel {LANDED} {} {room}", hex(&parts.record())),
                 &format!("refused 12 {length}"),
             );
         }
@@ -197,10 +191,26 @@ pub(super) fn sheets() -> Lines {
     lines.sheet(&Parts::longest_mel().record());
     lines.note("the longest form");
     lines.sheet(&Parts::longest_form().record());
-    lines.note("the longest record, 2,102 bytes, and one byte more");
+    lines.note("the longest record of version 1, 2,102 bytes, and one byte more");
     let mut record = Parts::longest_record().record();
     lines.sheet(&record);
     record.push(33);
     lines.sheet(&record);
+    lines.note("the longest record, of version 2, 2,422 bytes, and one byte more");
+    let mut record = Parts::longest_wide_record().record();
+    lines.sheet(&record);
+    record.push(33);
+    lines.sheet(&record);
+    lines.note("version 2: ground sets from goal to goal, faults of its own");
+    let wide = Parts::over(2, &[1, 1, 3, 2]).knowing(&[0, 1, 1, 3]);
+    lines.sheet(&wide.record());
+    for (place, value) in [(4, 3), (39, 2), (58, 0), (83, 7), (41, 0), (41, 234), (40, 255)] {
+        let mut record = wide.record();
+        record[place] = value;
+        lines.sheet(&record);
+    }
+    for length in [24, 42, 43, 44, 60] {
+        lines.sheet(&wide.record()[..length]);
+    }
     lines
 }
