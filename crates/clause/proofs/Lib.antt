@@ -1,3 +1,3 @@
-pub mod GoalSets
+pub mod GoalFacts
 pub mod PairRows
 pub mod Decoded

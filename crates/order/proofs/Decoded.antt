@@ -19,7 +19,7 @@ use Rattle.independence.specs.ByRows.{waitsBy}
 use Rattle.independence.proofs.Listed.{waits-listed}
 use Rattle.clause.specs.declared.Clause.{Clause}
 use Rattle.clause.specs.Clause.{goalSets, groundSets, pairRows, decoded}
-use Rattle.clause.proofs.GoalSets.{goal-at, ground-at}
+use Rattle.clause.proofs.GoalFacts.{goal-at, ground-at}
 use Rattle.clause.proofs.PairRows.{pair-at}
 use Rattle.record_fields.specs.Facts.{groundAt, freeAt}
 use Rattle.record_fields.specs.Fields.{goalCount, goalSet, listed}

@@ -6,16 +6,18 @@ use denote.Ref.{now}
 use lib.ListN.{length}
 use Rattle.sets.specs.Sets.{goalLimit}
 use Rattle.record_fields.specs.Fields as F
+use Rattle.record_fields.specs.Facts.{groundAt, ticksAt}
 use Rattle.record_fields.proofs.Places.{place-zero, place-turn}
 use Rattle.record_fields.proofs.Facts.{length-between, length-moves}
 use Rattle.record.proofs.Limits.{goal-there, place-limit}
-use Rattle.clause.proofs.GoalSets as G
+use Rattle.clause.proofs.GoalFacts as G
 use Rattle.clause.proofs.take_goals.Statement.{statement}
 use Rattle.clause.proofs.take_goals.Tie as tie
 
 abbrev Inv-loop : tie.InvT-loop
 Inv-loop b n sets₀ grounds₀ ticks₀ own ground fixed₀ texts₀ g₀ sets grounds ticks fixed texts g =
-    (g ≤ n) × (fixed + texts ≡ F.placeAfter b g) × (sets ≡ G.setsAfter goalLimit b g) × (grounds ≡ G.groundsAfter goalLimit b g) × (ticks ≡ G.ticksAfter goalLimit b g)
+    (g ≤ n) × (fixed + texts ≡ F.placeAfter b g) × (sets ≡ G.factsAfter goalLimit (F.goalSet b) g) × (grounds ≡ G.factsAfter goalLimit (groundAt b) g)
+    × (ticks ≡ G.factsAfter goalLimit (ticksAt b) g)
 
 abbrev μ-loop : tie.MeasureT-loop
 μ-loop b n sets₀ grounds₀ ticks₀ own ground fixed₀ texts₀ g₀ sets grounds ticks fixed texts g = n - g
@@ -47,7 +49,7 @@ whole-set-requires c κs = c .before .before .pre .0 .header-whole
 loop-holds : tie.Need-loop-holds Inv-loop μ-loop
 loop-holds c =
     let s = c .before .before .before in
-    (omega arith, place-zero _, s .pre .2 ∙ G.sets-zero goalLimit _, s .pre .3 ∙ G.grounds-zero goalLimit _, s .pre .4 ∙ G.ticks-zero goalLimit _)
+    (omega arith, place-zero _, s .pre .2 ∙ G.facts-zero goalLimit _, s .pre .3 ∙ G.facts-zero goalLimit _, s .pre .4 ∙ G.facts-zero goalLimit _)
 
 add-at : tie.Need-add-at Inv-loop μ-loop
 add-at c = omega (arith, there c)
@@ -115,9 +117,9 @@ loop-again c =
     omega (arith, c .text-at .ensures .0, text, length-moves b (l .fixed) (l .texts)) in (
       omega arith,
       end ∙ place-turn b (l .g) at p,
-      G.sets-more goalLimit b (l .g) at (l .sets) _ h (l .inv .2) p (c .before .before .before .before .before .before .whole-set2 .ensures),
-      G.grounds-more goalLimit b (l .g) at (l .grounds) _ h (l .inv .3) p (c .before .before .before .before .before .whole-ground .ensures),
-      G.ticks-more goalLimit b (l .g) at (l .ticks) _ h (l .inv .4) p (c .before .before .before .before .ticks-of .ensures),
+      G.facts-more goalLimit (F.goalSet b) (l .g) (l .sets) _ h (l .inv .2) (c .before .before .before .before .before .before .whole-set2 .ensures ∙ G.set-here b (l .g) at p),
+      G.facts-more goalLimit (groundAt b) (l .g) (l .grounds) _ h (l .inv .3) (c .before .before .before .before .before .whole-ground .ensures ∙ G.ground-here b (l .g) at p),
+      G.facts-more goalLimit (ticksAt b) (l .g) (l .ticks) _ h (l .inv .4) (c .before .before .before .before .ticks-of .ensures ∙ G.ticks-here b (l .g) at p),
     )
 
 returns : tie.Need-returns Inv-loop μ-loop
