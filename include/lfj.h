@@ -41,7 +41,7 @@ extern "C" {
 #endif
 
 /* No record that is accepted is longer, in bytes. */
-#define LFJ_RECORD_MAX 2422
+#define LFJ_RECORD_MAX 1910
 /* The most ticks of a goal; the least is 1. */
 #define LFJ_TICK_MAX 60000
 /* The most goals of a clause. */
@@ -190,7 +190,7 @@ static inline const char *lfj_words(unsigned number)
     case 7: return "the record ends within a goal's fixed part, 9 bytes or in version 2 19, "
                    "within a text or a pair (place: its length)";
     case 8: return "a goal has a variable at or above the count (place: the set's start)";
-    case 9: return "a goal's text length is not 1 to 40, or a byte of its text not 33 to 126";
+    case 9: return "a goal's text length is not 1 to 24, or a byte of its text not 33 to 126";
     case 10: return "a pair is not lower then higher, not below the variable count, "
                     "or not above the one before (place: its first byte)";
     case 11: return "bytes are left over (place: the first of them)";

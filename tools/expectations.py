@@ -1,10 +1,10 @@
 #!/usr/bin/env python3
-"""Writes what the program `drafts` is run on, and what it must print.
+"""Writes what the program `run_cases` is run on, and what it must print.
 
     tools/expectations.py CASES..        from the repository's root
 
-CASES are files of the conformance kit's format, `QUESTION = ANSWER` a line (kit/README.md): kit/cases/*.txt and kit/vectors/after-01.txt.
-The answers of drafts.txt come from the paper's text (tools/paper_drafts.py), those of after-01.txt from an independent annotator, those
+CASES are files of the conformance kit's format, `QUESTION = ANSWER` a line (kit/README.md): kit/cases/*.txt and kit/vectors/after-02.txt.
+The answers of drafts.txt come from the paper's text (tools/paper_drafts.py), those of after-02.txt from an independent annotator, those
 of the other files from the hand-written one of rust/compare. The questions go to crates/run_cases/data/cases.txt, the answers, and nothing
 that the program itself printed, to crates/run_cases/stdout. A question about the length estimate keeps its answer's bounds, between
 which the program's answer must lie. A question that passes the program's arrays is an error, but for a record that is refused at a place

@@ -1,12 +1,13 @@
 #!/usr/bin/env python3
 """Writes the drafts that the paper prints as cases of the conformance kit's format (kit/README.md).
 
-    tools/paper_drafts.py PAPER        from anywhere; writes kit/cases/drafts.txt
+    tools/paper_drafts.py PAPER REQUESTS        from anywhere; writes kit/cases/drafts.txt
 
-PAPER is 01-scope.md; the drafts of tools/more_drafts.md follow its own, those of the change requests' sentences among them. Questions and answers are both taken from their text: a draft
-that the script cannot read is an error, and so is a piece of a draft that it would pass over. Where a draft names no answer ("the first
-four" of several) the answer is searched for by the paper's words. A draft given by waits is a record with one variable a goal, in which
-the pairs of goals that do not wait are listed.
+PAPER is 01-scope.md, REQUESTS is 02-change-requests.md, whose sentences replace drafts of the paper. The drafts of tools/more_drafts.md
+follow, those of the change requests' other sentences among them. Questions and answers are both taken from their text: a draft that the
+script cannot read is an error, and so is a piece of a draft that it would pass over. Where a draft names no answer ("the first four" of
+several) the answer is searched for by the paper's words. A draft given by waits is a record with one variable a goal, in which the pairs
+of goals that do not wait are listed.
 """
 import itertools
 import os
@@ -109,7 +110,7 @@ def place_of(paper, start):
 
 
 # a goal with its facts, a clause with such goals, and what is said of it
-GOAL = r"\{[\d,]*\}(?: knowing \{[\d,]*\})?(?: of \d+ ticks?)?"
+GOAL = r"\{[\d,]*\}(?: knowing \{[\d,]*\})?(?: of \d+ ticks?)?(?: with a text of \d+ bytes?)?"
 CLAUSE = rf"Version (\d+), head (\{{[\d,]*\}})(?:, ground (\{{[\d,]*\}}))?, goals ({GOAL}(?:, {GOAL})*)(?:, cut to (\d+) bytes)?: "
 SAID = r"(?:read|refused by \d+ at \d+|(?:form|MEL) `[^`]*`)"
 
@@ -117,13 +118,14 @@ SAID = r"(?:read|refused by \d+ at \d+|(?:form|MEL) `[^`]*`)"
 def with_facts(found):
     """The record of a clause with facts at its goals: one that is not stated is the goal's before, at the first the header's; 1 tick."""
     ground = sets_in(found[3] or "{}")[0]
-    goals, facts, known = [], [], ground
+    goals, facts, texts, known = [], [], [], ground
     for goal in re.findall(GOAL, found[4]):
-        sets, ticks = sets_in(goal), re.search(r"of (\d+) tick", goal)
+        sets, ticks, text = sets_in(goal), re.search(r"of (\d+) tick", goal), re.search(r"of (\d+) byte", goal)
         known = sets[1] if len(sets) > 1 else known
         goals.append(sets[0])
         facts.append((known, int(ticks[1]) if ticks else 1))
-    data = record(sets_in(found[2])[0], ground, goals, [], facts=facts)
+        texts.append(b"x" * int(text[1]) if text else b"g%d" % len(goals))
+    data = record(sets_in(found[2])[0], ground, goals, [], texts=texts, facts=facts)
     data = data[:4] + bytes([int(found[1])]) + data[5:]
     return data[: int(found[5])] if found[5] else data
 
@@ -211,6 +213,17 @@ def one_draft(draft, paper, last):
     return data
 
 
+def replaced(draft, requests):
+    """The draft with the numbers by which a sentence of the change requests replaces its own."""
+    # request 2, the limit of a text's length
+    found = re.search(r"with refusal (\d+) as before; (\d+) is read and (\d+) refused, which replaces the (\d+) and (\d+) of the drafts", requests)
+    if not found:
+        fail("the change requests have no sentence that replaces the drafts of a text's length")
+    number, read, refused, old_read, old_refused = found.groups()
+    draft_of = "Text length {} accepted, {} refused by " + number
+    return draft.replace(draft_of.format(old_read, old_refused), draft_of.format(read, refused))
+
+
 def drafts_in(text):
     return [line[2:].removeprefix("* ") for line in text.splitlines() if line.startswith("- ")]
 
@@ -222,9 +235,9 @@ def section(paper, heading):
     return found[1]
 
 
-def main(path):
+def main(path, requests_path):
     root = os.path.join(os.path.dirname(os.path.abspath(__file__)), "..")
-    paper, more = read_text(path), read_text(os.path.join(root, "tools/more_drafts.md"))
+    paper, requests, more = read_text(path), read_text(requests_path), read_text(os.path.join(root, "tools/more_drafts.md"))
     whole = re.search(r"Whole case, hexadecimal: (.*?); (\d+) bytes\. It prints:\s*```\n(.*?)```", paper, re.S)
     if not whole:
         fail(f"{path}: no whole case in this paper")
@@ -234,11 +247,15 @@ def main(path):
     case(f"sheet {LANDED} {hexed(data)}", f"ok {hexed(whole[3].encode())}")
     for operation in ("form", "mel"):
         text_case(operation, data, re.search(f"^{operation} (.*)$", whole[3], re.M)[1])
-    out = ["# The draft clauses that the paper prints, and the ones of tools/more_drafts.md; tools/paper_drafts.py takes them from their text."]
+    out = ["# The draft clauses that the papers print, and the ones of tools/more_drafts.md; tools/paper_drafts.py takes them from their text."]
     out += ["", "# the whole case"] + lines
     lines.clear()
     last = b""
-    for draft in drafts_in(section(paper, "Draft clauses to hold against it")) + drafts_in(more):
+    theirs = drafts_in(section(paper, "Draft clauses to hold against it"))
+    new = [replaced(draft, requests) for draft in theirs]
+    if new == theirs:
+        fail(f"{requests_path}: replaces no draft of this paper")
+    for draft in new + drafts_in(more):
         last = one_draft(draft, paper, last)
         out += ["", f"# {draft}"] + lines
         lines.clear()
@@ -246,7 +263,7 @@ def main(path):
     print(f"{sum(' = ' in line for line in out)} cases")
 
 
-if len(sys.argv) != 2:
+if len(sys.argv) != 3:
     print(__doc__, file=sys.stderr)
     sys.exit(2)
-main(sys.argv[1])
+main(*sys.argv[1:])

@@ -20,8 +20,8 @@ def mel(sheet):
 WANTED = {
     **{f"refused-{k}": lambda record, sheet, k=k: record and sheet.startswith(b"refused %d " % k) for k in [*range(1, 12), 18, 19]},
     "no-form": lambda record, sheet: b"\nform none " in sheet,
-    "longest": lambda record, sheet: len(record) == 2422 and sheet.startswith(b"goals 32\n"),
-    "longest-and-one": lambda record, sheet: sheet == b"refused 11 2422\n" and len(record) == 2423,
+    "longest": lambda record, sheet: len(record) == 1910 and sheet.startswith(b"goals 32\n"),
+    "longest-and-one": lambda record, sheet: sheet == b"refused 11 1910\n" and len(record) == 1911,
     "full": lambda record, sheet: len(record) == 4096,
     "beyond": lambda record, sheet: len(record) > 4097,
     "mel-at-limit": lambda record, sheet: len(mel(sheet)) == 32768,

@@ -4,7 +4,7 @@
     tools/text_cases.py CASES..        from the repository's root
 
 CASES are files of the conformance kit's format (kit/README.md): kit/cases/drafts.txt, which tools/paper_drafts.py takes from the
-paper, kit/cases/readings.txt and kit/vectors/after-01.txt. The expectation is the answer of each `check` line whose record is accepted,
+paper, kit/cases/readings.txt and kit/vectors/after-02.txt. The expectation is the answer of each `check` line whose record is accepted,
 never what the program printed: refusals 15 to 17 as they stand, and `read` for a text that got a verdict.
 """
 import sys
@@ -12,12 +12,14 @@ from kit_cases import bytes_of, cases, fail, write_all
 
 # the length of the program's input array, and of the array of a text
 INPUT, TEXT = 65536, 1024
+# the refusals of a text; any other is the record's
+OF_TEXTS = (15, 16, 17)
 
 found = {}
 for place, question, answer in cases(sys.argv[1:]):
     operation, _, record, *rest = question.split()
     said = answer.split()
-    if operation != "check" or said[0] == "refused" and int(said[1]) < 15:
+    if operation != "check" or said[0] == "refused" and int(said[1]) not in OF_TEXTS:
         continue
     if len(bytes_of(rest[0])) > TEXT:
         fail(f"{place}: the text is longer than {TEXT} bytes")

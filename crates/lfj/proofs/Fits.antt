@@ -75,7 +75,7 @@ module _ (b : List ℕ) (bytes : Bytes b) where
   unfolding after
   after-fits g = all-read (λ k p. Small p) (λ m. Unit {0}) b _ limit (λ e. all-only (λ k p. Small p) (λ m. Unit {0}) (leb 1 g && leb g (goalCount b)) 14 0 _ (omega arith) (λ t. tt))
 
-  -- ---- a goal's text starts below 2 ^ 32 and has at most 40 bytes
+  -- ---- a goal's text starts below 2 ^ 32 and has fewer than 2 ^ 16 bytes
   text-fits : (g : ℕ) → Fit (λ (s : Span). Small (s .place) × (s .size < 2 ^ 16)) (goalText b g)
   unfolding goalText textPlace
   text-fits g =

@@ -64,7 +64,7 @@ headerSize = 24
 unfoldable pub ownFacts : List ℕ → Bool
 ownFacts b = eqb (version b) versionTwo
 
--- 01: "Then n goals: variable set, one length byte (1 to 40), that many text bytes". Of the goal that starts at a place: where its length byte and its
+-- 01: "Then n goals: variable set, one length byte (..), that many text bytes". Of the goal that starts at a place: where its length byte and its
 -- text stand, how long its text is, and where it ends. The bytes before the text are its fixed part.
 unfoldable pub lengthAt : List ℕ → ℕ → ℕ
 lengthAt b at = at + cond (ownFacts b) 18 8

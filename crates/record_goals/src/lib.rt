@@ -55,7 +55,7 @@ fn find_bad(b: &[u8], from: usize, k: usize) -> usize
 }
 
 // The most bytes that a goal's text has.
-const LONGEST: usize = 40;
+const LONGEST: usize = 24;
 
 // Whether a text may have k bytes.
 fn length_fine(k: usize) -> bool

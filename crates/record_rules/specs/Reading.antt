@@ -42,9 +42,9 @@ ground b s = s must subset (groundSet b) (headSet b) else 6 place 16
 unfoldable pub header : (ℕ → Bool) → List ℕ → Reading
 header isVersion b = ground b (head b (counts isVersion b))
 
--- 01: "one length byte (1 to 40)"
+-- 02, 2: "The text length limit becomes 1 to 24, with refusal 9 as before", in records of every version
 abbrev pub textLimit : ℕ
-textLimit = 40
+textLimit = 24
 
 -- 01: "that many text bytes, each 33 to 126"
 abbrev pub leastTextByte : ℕ

@@ -11,6 +11,7 @@ use Rattle.buffer.specs.Decimal.{decimal}
 use Rattle.buffer.proofs.Writing.{none}
 use Rattle.buffer.proofs.Decimal.{decimal-length}
 use Rattle.record_fields.specs.Fields.{goalCount, textAt, textLengthAt, goalEnd, placeAfter, textPlace, textLength}
+use Rattle.record_rules.specs.Reading.{textLimit}
 use Rattle.record.specs.WellFormed.{WellFormed}
 use Rattle.record.proofs.Limits.{text-limit, goal-there, place-limit}
 use Rattle.expression.specs.Search.{Four}
@@ -83,8 +84,8 @@ module _ (b : List ℕ) where
   unfolding goalText
   text-short g = rw (length-take (textLength b g) (drop (textPlace b g) b)) (min-le-left (textLength b g) (length (drop (textPlace b g) b)))
 
-  -- a text of at most 40 bytes, after a number of at most two digits
-  pub goals-length : WellFormed b → (g : ℕ) → g ≤ goalCount b → length (goalLines (goalText b) g) ≤ 44 * g
+  -- the longest text, after a number of at most two digits
+  pub goals-length : WellFormed b → (g : ℕ) → g ≤ goalCount b → length (goalLines (goalText b) g) ≤ (4 + textLimit) * g
   unfolding goalLines
   goals-length w zero h = omega arith
   goals-length w (suc g) h =

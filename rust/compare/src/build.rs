@@ -2,7 +2,7 @@
 //! clauses that are hardest on an annotator.
 
 use crate::Refusal;
-use crate::record::{TICK_LIMIT, scan};
+use crate::record::{GOAL_TEXT_LIMIT, TICK_LIMIT, scan};
 
 /// What is known just left of a goal, and how long it takes.
 #[derive(Clone, Copy, PartialEq, Eq, Debug)]
@@ -120,17 +120,17 @@ impl Parts {
         parts
     }
 
-    /// The longest record of version 1, 2,102 bytes: 32 texts of 40 bytes and 255 pairs. Its
+    /// The longest record of version 1, 1,590 bytes: 32 texts of 24 bytes and 255 pairs. Its
     /// form is the longest one.
     pub fn longest_record() -> Parts {
         let mut parts = Parts::longest_form();
-        parts.goals.iter_mut().for_each(|goal| goal.1 = vec![b'~'; 40]);
+        parts.goals.iter_mut().for_each(|goal| goal.1 = vec![b'~'; GOAL_TEXT_LIMIT]);
         parts.variables = 64;
         parts.pairs.extend((33..48).map(|higher| (32, higher)));
         parts
     }
 
-    /// The longest record of all, 2,422 bytes: the same clause in version 2. No variable is
+    /// The longest record of all, 1,910 bytes: the same clause in version 2. No variable is
     /// ground anywhere, and each goal takes the most ticks.
     pub fn longest_wide_record() -> Parts {
         let mut parts = Parts::longest_record().knowing(&[]);

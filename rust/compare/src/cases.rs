@@ -5,7 +5,7 @@ use crate::sheet::sheet;
 use crate::{Order, Refusal, Verdict};
 
 /// The field K: how many change requests have landed.
-pub const LANDED: u8 = 1;
+pub const LANDED: u8 = 2;
 
 /// The operations of the paper, as a case calls them.
 pub trait Annotator {

@@ -2,7 +2,7 @@
 //! lines.
 
 use crate::build::{Facts, Parts};
-use crate::record::TICK_LIMIT;
+use crate::record::{GOAL_TEXT_LIMIT, TICK_LIMIT};
 use std::fmt::Write;
 
 const KEYWORDS: &str = "version, variables, head, ground, goal, independent, byte, cut, more";
@@ -167,11 +167,12 @@ impl Reader {
         if let Some(sign) = text.chars().find(|sign| !('!'..='~').contains(sign)) {
             self.fault(format!("the goal's text has `{sign}`; only the signs ! to ~ are allowed"));
         }
-        if text.len() > 40 {
-            self.fault(format!("the goal's text has {} bytes, 40 is the most", text.len()));
+        if text.len() > GOAL_TEXT_LIMIT {
+            let (length, most) = (text.len(), GOAL_TEXT_LIMIT);
+            self.fault(format!("the goal's text has {length} bytes, {most} is the most"));
         }
         let set = self.set(variables);
-        self.parts.goals.push((set, text.bytes().take(40).collect()));
+        self.parts.goals.push((set, text.bytes().take(GOAL_TEXT_LIMIT).collect()));
         self.facts(facts);
         if self.parts.goals.len() == 33 {
             self.fault("this is goal 33, 32 is the most");

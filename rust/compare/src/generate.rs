@@ -1,7 +1,7 @@
 //! Seeded records, texts and damage, for tests and for the kit.
 
 use crate::build::Parts;
-use crate::record::TICK_LIMIT;
+use crate::record::{GOAL_TEXT_LIMIT, TICK_LIMIT};
 
 /// A generator of pseudo-random numbers: the same seed gives the same numbers.
 #[derive(Clone, Debug)]
@@ -58,7 +58,8 @@ fn goal_text(random: &mut Random) -> Vec<u8> {
     if random.chance(3, 4) {
         return random.pick(&WORDS).as_bytes().to_vec();
     }
-    let length = if random.chance(1, 3) { 40 } else { random.between(1, 40) };
+    let length =
+        if random.chance(1, 3) { GOAL_TEXT_LIMIT } else { random.between(1, GOAL_TEXT_LIMIT) };
     (0..length).map(|_| random.between(33, 126) as u8).collect()
 }
 
@@ -432,7 +433,7 @@ pub fn damage(random: &mut Random, record: &mut Vec<u8>) {
         }
         _ if length > 0 => {
             let at = random.below(length);
-            record[at] = random.pick(&[0, 1, 32, 33, 40, 41, 126, 127, 128, 255]);
+            record[at] = random.pick(&[0, 1, 24, 25, 32, 33, 40, 126, 127, 128, 255]);
         }
         _ => (),
     }

@@ -1,5 +1,5 @@
 //! A second annotator of half-motif clauses, written by hand from the papers
-//! `01-scope.md` ("01") and `02-change-requests.md` ("02"), request 1, and apart from the
+//! `01-scope.md` ("01") and `02-change-requests.md` ("02"), requests 1 and 2, and apart from the
 //! proved one. It is the reference of the
 //! differential test and the yardstick of the benchmark, so it is fast: goal sets are
 //! `u32`, variable sets `u64`, nothing is allocated, a record is decoded once a call.
@@ -38,7 +38,7 @@ mod sheet;
 pub use expression::{TEXT_LIMIT, Verdict};
 pub use form::FORM_LIMIT;
 pub use order::Order;
-pub use record::{GOAL_LIMIT, TICK_LIMIT};
+pub use record::{GOAL_LIMIT, GOAL_TEXT_LIMIT, TICK_LIMIT};
 pub use sheet::{INPUT_LIMIT, MEL_LIMIT, sheet};
 
 use record::Clause;

@@ -7,7 +7,8 @@ use crate::numbers::first_variables;
 pub const GOAL_LIMIT: usize = 32;
 const VARIABLE_LIMIT: usize = 64;
 const HEADER: usize = 24;
-const GOAL_TEXT_LIMIT: usize = 40;
+/// The most bytes of a goal's text (02, 2); the least is 1.
+pub const GOAL_TEXT_LIMIT: usize = 24;
 /// The most ticks of a goal; the least is 1.
 pub const TICK_LIMIT: u16 = 60_000;
 

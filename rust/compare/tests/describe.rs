@@ -127,7 +127,8 @@ fn faults_have_their_line() {
     assert_eq!(one("variables X\ngoal a\nindependent X").0, 3);
     assert_eq!(one("variables X\nground X\ngoal a").0, 2);
     assert_eq!(one("variables v0..v64\ngoal a").1, "65 variables, 64 is the most");
-    assert_eq!(one(&format!("goal {}", "x".repeat(41))).0, 1);
+    assert_eq!(one(&format!("goal {}", "x".repeat(25))).0, 1);
+    assert!(describe::read(&format!("goal {}", "x".repeat(24))).is_ok());
     assert_eq!(one("goal \u{e9}").0, 1);
     assert_eq!(one(&"goal a\n".repeat(33)).0, 33);
     assert_eq!(one("variables v0..v23\ngoal a\nindependent v0..v23").0, 3);

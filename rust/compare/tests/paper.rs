@@ -154,23 +154,25 @@ fn open_parentheses_and_lengths() {
 #[test]
 fn goal_texts() {
     let mut parts = waits(2, &[]);
-    parts.goals[0].1 = vec![b'x'; 40];
-    assert_eq!(compare::goal_text(&parts.record(), 1), Ok((33, 40)));
-    assert_eq!(compare::goal_text(&parts.record(), 2), Ok((82, 2)));
+    parts.goals[0].1 = vec![b'x'; 24];
+    assert_eq!(compare::goal_text(&parts.record(), 1), Ok((33, 24)));
+    assert_eq!(compare::goal_text(&parts.record(), 2), Ok((66, 2)));
     for goal in [0, 3, 33, 256, 257, u32::MAX] {
         assert_eq!(compare::goal_text(&parts.record(), goal), Err(refusal(14, 0)));
         assert_eq!(compare::after(&parts.record(), goal), Err(refusal(14, 0)));
     }
-    parts.goals[0].1 = vec![b'x'; 41];
-    assert_eq!(compare::read(&parts.record()), Err(refusal(9, 32)));
+    for length in [25, 40, 41, 255] {
+        parts.goals[0].1 = vec![b'x'; length];
+        assert_eq!(compare::read(&parts.record()), Err(refusal(9, 32)));
+    }
     // A cut text is 7 even if a byte of it is bad; a bad length is 9 even at the end.
-    parts.goals[0].1 = vec![b' '; 40];
-    assert_eq!(compare::read(&parts.record()[..60]), Err(refusal(7, 60)));
+    parts.goals[0].1 = vec![b' '; 24];
+    assert_eq!(compare::read(&parts.record()[..50]), Err(refusal(7, 50)));
     assert_eq!(compare::read(&parts.record()), Err(refusal(9, 33)));
     parts.goals[0].1 = vec![];
     assert_eq!(compare::read(&parts.record()[..33]), Err(refusal(9, 32)));
     for byte in 0..=255u8 {
-        for (length, at) in [(1, 0), (7, 6), (8, 0), (9, 8), (40, 17), (40, 39)] {
+        for (length, at) in [(1, 0), (7, 6), (8, 0), (9, 8), (24, 17), (24, 23)] {
             let mut text = vec![b'~'; length];
             text[at] = byte;
             parts.goals[0].1 = text;
@@ -310,6 +312,6 @@ fn refusals_of_version_2() {
     record[41] = 0;
     assert_eq!(compare::read(&record[..42]), Err(refusal(7, 42)));
     assert_eq!(compare::read(&record[..43]), Err(refusal(19, 40)));
-    assert_eq!(Parts::longest_wide_record().record().len(), 2422);
+    assert_eq!(Parts::longest_wide_record().record().len(), 1910);
     assert_eq!(read(&Parts::longest_wide_record()), Ok(32));
 }

@@ -52,7 +52,7 @@ mod refusal;
 pub use refusal::Refusal;
 
 /// No record that is accepted is longer, in bytes.
-pub const RECORD_LIMIT: usize = 2422;
+pub const RECORD_LIMIT: usize = 1910;
 
 /// The longest fork-join expression in house form, in bytes.
 pub const FORM_LIMIT: usize = 146;

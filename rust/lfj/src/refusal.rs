@@ -53,7 +53,7 @@ impl fmt::Display for Refusal {
             )?,
             9 => write!(
                 f,
-                "byte {place} of the record is not the length of a goal's text, 1 to 40, \
+                "byte {place} of the record is not the length of a goal's text, 1 to 24, \
                  or not a byte of one, 33 to 126"
             )?,
             10 => write!(

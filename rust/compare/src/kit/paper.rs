@@ -41,7 +41,7 @@ fn record_readings(lines: &mut Lines) {
     lines.expect_read(&record[..37], "refused 7 37");
     lines.expect_read(&record[..38], "refused 9 35");
     lines.note("a bad length byte is 9, although the record ends there (wrong: 7)");
-    for length in [0, 41, 255] {
+    for length in [0, 25, 40, 41, 255] {
         let mut record = waiting(1, &[]).record();
         record.truncate(33);
         record[32] = length;

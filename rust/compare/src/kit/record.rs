@@ -90,20 +90,20 @@ pub(super) fn goals() -> Lines {
             }
         }
     }
-    lines.note("9: the text's length, 1 to 40");
+    lines.note("9: the text's length, 1 to 24");
     for length in 1..=41 {
         let mut parts = waiting(2, &[]);
         parts.goals[1].1 = vec![b'x'; length];
         lines.read(&parts.record());
     }
     for goal_end in [32, 45, 58] {
-        for length in [0, 41, 42, 127, 128, 255] {
+        for length in [0, 25, 26, 40, 41, 127, 128, 255] {
             lines.read(&with_byte(&record, goal_end, length));
         }
     }
     lines.note("9: the first byte of the text that is not 33 to 126");
     for byte in [0, 1, 9, 10, 31, 32, 33, 34, 125, 126, 127, 128, 160, 255] {
-        for length in [1, 2, 8, 9, 40] {
+        for length in [1, 2, 8, 9, 24] {
             for at in [0, length / 2, length - 1] {
                 let mut text = vec![b'~'; length];
                 text[at] = byte;
@@ -164,9 +164,9 @@ pub(super) fn pairs() -> Lines {
     lines.read(&record);
     record[7] = 0;
     lines.read(&record);
-    lines.note("the longest record of version 1, 2,102 bytes, and one byte more");
+    lines.note("the longest record of version 1, 1,590 bytes, and one byte more");
     let mut record = Parts::longest_record().record();
-    assert_eq!(record.len(), 2102);
+    assert_eq!(record.len(), 1590);
     lines.read(&record);
     record.push(33);
     lines.read(&record);

@@ -6,6 +6,7 @@ use super::{Lines, waiting};
 use crate::build::Parts;
 use crate::cases::{LANDED, hex, unhex};
 use crate::generate::Random;
+use crate::record::GOAL_TEXT_LIMIT;
 
 pub(super) fn mel_stages() -> Lines {
     let mut lines = Lines::new("mel-stages", "MEL: where stages end.");
@@ -144,7 +145,7 @@ pub(super) fn goal_texts() -> Lines {
     for (goal, text) in parts.goals.iter_mut().zip(["x", "#hidden", "~", "!"]) {
         goal.1 = text.as_bytes().to_vec();
     }
-    parts.goals[2].1 = vec![b'~'; 40];
+    parts.goals[2].1 = vec![b'~'; GOAL_TEXT_LIMIT];
     let many = Parts::over(1, &[1; 32]);
     for goal in 0..=5 {
         lines.goal_text(&parts, goal);
@@ -191,12 +192,12 @@ pub(super) fn sheets() -> Lines {
     lines.sheet(&Parts::longest_mel().record());
     lines.note("the longest form");
     lines.sheet(&Parts::longest_form().record());
-    lines.note("the longest record of version 1, 2,102 bytes, and one byte more");
+    lines.note("the longest record of version 1, 1,590 bytes, and one byte more");
     let mut record = Parts::longest_record().record();
     lines.sheet(&record);
     record.push(33);
     lines.sheet(&record);
-    lines.note("the longest record, of version 2, 2,422 bytes, and one byte more");
+    lines.note("the longest record, of version 2, 1,910 bytes, and one byte more");
     let mut record = Parts::longest_wide_record().record();
     lines.sheet(&record);
     record.push(33);

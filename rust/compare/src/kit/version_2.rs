@@ -44,15 +44,15 @@ pub(super) fn record() -> Lines {
     grounds(&mut lines);
     ticks(&mut lines);
     which_first(&mut lines);
-    lines.note("the text of 1 to 40 bytes behind a fixed part of 19");
-    for length in [1, 2, 7, 8, 9, 39, 40, 41] {
+    lines.note("the text of 1 to 24 bytes behind a fixed part of 19");
+    for length in [1, 2, 7, 8, 9, 23, 24, 25, 40, 41] {
         let mut parts = three();
         parts.goals[1].1 = vec![b'x'; length];
         lines.read(&parts.record());
         parts.goals[1].1[length - 1] = 127;
         lines.read(&parts.record());
     }
-    for length in [0, 41, 255] {
+    for length in [0, 25, 40, 41, 255] {
         lines.expect_read(&with_byte(&record, 42, length), "refused 9 42");
     }
     lines.note("1 to 32 goals");
@@ -70,11 +70,11 @@ pub(super) fn record() -> Lines {
     lines.read(&[&parts.record()[..], &[0, 1]].concat());
     parts.pairs = vec![(0, 2), (0, 1)];
     lines.read(&parts.record());
-    lines.note("the longest record, 2,422 bytes, and one byte more or less");
+    lines.note("the longest record, 1,910 bytes, and one byte more or less");
     let mut longest = Parts::longest_wide_record().record();
-    assert_eq!(longest.len(), 2422);
+    assert_eq!(longest.len(), 1910);
     lines.read(&longest);
-    lines.read(&longest[..2421]);
+    lines.read(&longest[..1909]);
     longest.push(33);
     lines.read(&longest);
     lines.note("seeded records, valid and damaged");
