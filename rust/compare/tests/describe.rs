@@ -8,6 +8,13 @@ fn faults(text: &str) -> Vec<(usize, String)> {
     describe::read(text).unwrap_err()
 }
 
+/// The fault of a description that has one.
+fn one(text: &str) -> (usize, String) {
+    let faults = faults(text);
+    assert_eq!(faults.len(), 1, "{faults:?}");
+    faults[0].clone()
+}
+
 #[test]
 fn the_whole_case() {
     let text = "\
@@ -67,11 +74,6 @@ goal d
 
 #[test]
 fn faults_of_facts() {
-    let one = |text: &str| {
-        let faults = faults(text);
-        assert_eq!(faults.len(), 1, "{faults:?}");
-        faults[0].clone()
-    };
     let fault = |line: usize, words: &str| (line, words.to_string());
     assert_eq!(one("goal a ticks 0"), fault(1, "0 ticks; a goal has 1 to 60000"));
     assert_eq!(one("goal a ticks 60001"), fault(1, "60001 ticks; a goal has 1 to 60000"));
@@ -110,11 +112,6 @@ fn changed_bytes() {
 
 #[test]
 fn faults_have_their_line() {
-    let one = |text: &str| {
-        let faults = faults(text);
-        assert_eq!(faults.len(), 1, "{faults:?}");
-        faults[0].clone()
-    };
     let (line, words) = one("variables X\n\ngaol half X\ngoal a");
     assert_eq!(line, 3);
     assert!(words.starts_with("`gaol` is no keyword; these are: version, variables,"), "{words}");
