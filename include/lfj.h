@@ -72,8 +72,8 @@ uint64_t lfj_after(const uint8_t *record, size_t n, uint32_t goal);
 uint64_t lfj_form(const uint8_t *record, size_t n, uint8_t *out, size_t room);
 
 /*
- * A room that is enough for the form. Accepted: a number from the form's length
- * up to 160. Refused by 13.
+ * The form's length, exactly: lfj_form with so much room is not refused by 12, and
+ * with one byte less always is. Accepted: the length. Refused by 13.
  */
 uint64_t lfj_form_length(const uint8_t *record, size_t n);
 

@@ -3,12 +3,12 @@
 
     tools/expectations.py CASES..        from the repository's root
 
-CASES are files of the conformance kit's format, `QUESTION = ANSWER` a line (kit/README.md): kit/cases/*.txt and kit/vectors/after-02.txt.
-The answers of drafts.txt come from the paper's text (tools/paper_drafts.py), those of after-02.txt from an independent annotator, those
+CASES are files of the conformance kit's format, `QUESTION = ANSWER` a line (kit/README.md): kit/cases/*.txt and kit/vectors/after-03.txt.
+The answers of drafts.txt come from the paper's text (tools/paper_drafts.py), those of after-03.txt from an independent annotator, those
 of the other files from the hand-written one of rust/compare. The questions go to crates/run_cases/data/cases.txt, the answers, and nothing
-that the program itself printed, to crates/run_cases/stdout. A question about the length estimate keeps its answer's bounds, between
-which the program's answer must lie. A question that passes the program's arrays is an error, but for a record that is refused at a place
-within them: the program has its first 4,096 bytes, and a record of so many is never refused for being too short.
+that the program itself printed, to crates/run_cases/stdout. A question that passes the program's arrays is an error, but for
+a record that is refused at a place within them: the program has its first 4,096 bytes, and a record of so many is never refused for being
+too short.
 """
 import sys
 from kit_cases import bytes_of, cases, fail, write_all
@@ -27,10 +27,9 @@ for place, question, answer in cases(sys.argv[1:]):
         fail(f"{place}: the text is longer than {TEXT} bytes")
     if operation in ("form", "mel") and int(rest[0]) > ROOM:
         fail(f"{place}: the buffer is longer than {ROOM} bytes")
-    line = f"{question} = {answer}" if operation == "length" else question
-    if len(line) >= LINE:
+    if len(question) >= LINE:
         fail(f"{place}: the question is longer than {LINE - 1} bytes")
-    questions.append(line)
+    questions.append(question)
     answers.append(answer)
 text = lambda lines: "".join(line + "\n" for line in lines).encode("ascii")
 write_all({"crates/run_cases/data/cases.txt": text(questions), "crates/run_cases/stdout": text(answers)})

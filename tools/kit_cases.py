@@ -2,7 +2,7 @@
 import sys
 
 # the field K: how many change requests have landed
-LANDED = 2
+LANDED = 3
 # the number of fields behind OPERATION and K
 FIELDS = {"read": 1, "waits": 1, "order": 1, "form": 2, "length": 1, "mel": 2, "text": 2, "check": 2, "sheet": 1}
 
@@ -37,7 +37,7 @@ def cases(paths):
                     fail(f"{path}:{number}: the field K is not {LANDED}")
                 found.append((f"{path}:{number}", question, answer))
     if not found:
-        fail(f"no cases; name files of the kit, as in {sys.argv[0]} kit/cases/drafts.txt kit/vectors/after-02.txt")
+        fail(f"no cases; name files of the kit, as in {sys.argv[0]} kit/cases/drafts.txt kit/vectors/after-03.txt")
     return found
 
 

@@ -3,11 +3,11 @@
 
     tools/paper_drafts.py PAPER REQUESTS        from anywhere; writes kit/cases/drafts.txt
 
-PAPER is 01-scope.md, REQUESTS is 02-change-requests.md, whose sentences replace drafts of the paper. The drafts of tools/more_drafts.md
-follow, those of the change requests' other sentences among them. Questions and answers are both taken from their text: a draft that the
-script cannot read is an error, and so is a piece of a draft that it would pass over. Where a draft names no answer ("the first four" of
-several) the answer is searched for by the paper's words. A draft given by waits is a record with one variable a goal, in which the pairs
-of goals that do not wait are listed.
+PAPER is 01-scope.md, REQUESTS is 02-change-requests.md, whose sentences replace drafts of the paper. A draft of a form is asked for
+its length too, by request 3. The drafts of tools/more_drafts.md follow, those of the change requests' other sentences among them.
+Questions and answers are both taken from their text: a draft that the script cannot read is an error, and so is a piece of a draft
+that it would pass over. Where a draft names no answer ("the first four" of several) the answer is searched for by the paper's words. A
+draft given by waits is a record with one variable a goal, in which the pairs of goals that do not wait are listed.
 """
 import itertools
 import os
@@ -69,7 +69,13 @@ def case(question, answer):
 
 
 def text_case(operation, data, text):
-    case(f"{operation} {LANDED} {hexed(data)} {ROOM}", f"ok {len(text)} {hexed(text.encode())}")
+    answer = f"ok {len(text)} {hexed(text.encode())}"
+    case(f"{operation} {LANDED} {hexed(data)} {ROOM}", answer)
+    if operation == "form":
+        # request 3: the form's length; a buffer of so many bytes suffices, and one byte less does not
+        case(f"length {LANDED} {hexed(data)}", f"ok {len(text)}")
+        case(f"form {LANDED} {hexed(data)} {len(text)}", answer)
+        case(f"form {LANDED} {hexed(data)} {len(text) - 1}", f"refused 12 {len(text)}")
 
 
 def check_case(data, text, answer):

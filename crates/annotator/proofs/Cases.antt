@@ -53,7 +53,7 @@ use Rattle.annotator.specs.declared.CheckAnswer.{CheckAnswer}
 use Rattle.annotator.specs.declared.CheckAnswer.the-variants.{Verdict, Rejected}
 use Rattle.annotator.specs.Answers.{read, readOutcome, goalText, textOutcome, noSpan, check, checkOutcome}
 use Rattle.record.specs.Limits.{OfReading}
-use Rattle.annotator.specs.Cases.{OfText, OfCheck, OfForm, OfEstimate, OfMel, Refuses, Numbers, OneAnswer}
+use Rattle.annotator.specs.Cases.{OfText, OfCheck, OfForm, OfLength, OfMel, Refuses, Numbers, OneAnswer}
 
 -- ---- the numbers of refusals
 abbrev Turned : {A : Type 0} → (ℕ → Type 0) → Outcome A → Type 0
@@ -101,8 +101,8 @@ module _ (k : ℕ) where
   form-some : OfForm k → 1 ≤ k
   form-some h = ⊎-elim reading-some (λ a. ⊎-elim (λ c. omega arith) (λ c. omega arith) a) h
 
-  estimate-some : OfEstimate k → 1 ≤ k
-  estimate-some h = ⊎-elim reading-some (λ a. omega arith) h
+  length-some : OfLength k → 1 ≤ k
+  length-some h = ⊎-elim reading-some (λ a. omega arith) h
 
   mel-some : OfMel k → 1 ≤ k
   mel-some h = ⊎-elim reading-some (λ a. omega arith) h
@@ -130,12 +130,9 @@ module _ (b : List ℕ) where
   answer-turned : (buf : List ℕ) → Turned OfForm (F.formAnswer b buf)
   answer-turned buf = sized OfForm (F.formText b) buf (inr (inl refl)) (form-turned OfForm (λ k h. inl h) (inr (inr refl)))
 
-  estimate-turned : (x : Outcome (List ℕ)) (o : Outcome ℕ) → Turned OfEstimate x → F.Estimated x o → Turned OfEstimate o
-  estimate-turned (refused k p) o h e = subst (Turned OfEstimate) (sym e) h
-  estimate-turned (accepted t) o h e = subst (Turned OfEstimate) (sym (e .gives)) tt
-
-  length-turned : (o : Outcome ℕ) → F.Estimated (F.formText b) o → Turned OfEstimate o
-  length-turned o e = estimate-turned (F.formText b) o (form-turned OfEstimate (λ k h. inl h) (inr refl)) e
+  length-turned : Turned OfLength (F.formLength b)
+  length-turned =
+      all-next (λ k p. OfLength k) (λ x. Unit {0}) (λ x. Unit {0}) (F.formText b) _ (form-turned OfLength (λ k h. inl h) (inr refl)) (λ t s. tt)
 
   mel-turned : (buf : List ℕ) → Turned OfMel (M.melAnswer b buf)
   unfolding M.melOutcome
@@ -148,7 +145,7 @@ module _ (b : List ℕ) where
         of-text = λ g k p. all-refused _ _ (goal-turned g);
         of-check = λ t k p. all-refused _ _ (check-turned t);
         of-form = λ buf k p. all-refused _ _ (answer-turned buf);
-        of-estimate = λ o k p e. all-refused _ _ (length-turned o e);
+        of-length = λ k p. all-refused _ _ length-turned;
         of-mel = λ buf k p. all-refused _ _ (mel-turned buf);
       }
 
@@ -174,7 +171,7 @@ module _ (b : List ℕ) where
         of-text = λ g. number-zero noSpan (goalText b g) (λ k p e. text-some k (refuses .of-text g k p e));
         of-check = λ t. number-zero same (check b t) (λ k p e. check-some k (refuses .of-check t k p e));
         of-form = λ buf. number-zero 0 (F.formAnswer b buf) (λ k p e. form-some k (refuses .of-form buf k p e));
-        of-estimate = λ o h. number-zero 0 o (λ k p e. estimate-some k (refuses .of-estimate o k p h e));
+        of-length = number-zero 0 (F.formLength b) (λ k p e. length-some k (refuses .of-length k p e));
         of-mel = λ buf. number-zero 0 (M.melAnswer b buf) (λ k p e. mel-some k (refuses .of-mel buf k p e));
         of-thirteen = thirteen;
       }

@@ -1,5 +1,5 @@
 -- What the operations of 01 answer, each as an outcome of the lent bytes (record_rules/specs/Outcome), and the outcome that each case of a program's answer is.
--- Writing the form and the length estimate have theirs in the crate `form`, writing MEL in `mel`.
+-- Writing the form and its length have theirs in the crate `form`, writing MEL in `mel`.
 use mathlib.Core.Bool.{_&&_}
 use mathlib.Core.List.{List}
 use Prim.Native.Nat.{ℕ}

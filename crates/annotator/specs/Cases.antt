@@ -4,7 +4,7 @@ use mathlib.Core.List.{List}
 use mathlib.Core.Logic.{_⊎_, _↔_}
 use mathlib.Core.Option.{some}
 use Prim.Native.Nat.{ℕ, _≤_}
-use Rattle.record_rules.specs.Outcome.{Outcome, refused, values, Accepted}
+use Rattle.record_rules.specs.Outcome.{refused, values, Accepted}
 use Rattle.expression.specs.Search.{Four}
 use Rattle.expression_grammar.specs.Check.{same}
 use Rattle.record.specs.Limits.{OfReading}
@@ -27,8 +27,8 @@ OfCheck k = OfReading k ⊎ ((15 ≤ k) × (k ≤ 17))
 abbrev pub OfForm : ℕ → Type 0
 OfForm k = OfReading k ⊎ ((k ≡ 12) ⊎ (k ≡ 13))
 
-abbrev pub OfEstimate : ℕ → Type 0
-OfEstimate k = OfReading k ⊎ (k ≡ 13)
+abbrev pub OfLength : ℕ → Type 0
+OfLength k = OfReading k ⊎ (k ≡ 13)
 
 abbrev pub OfMel : ℕ → Type 0
 OfMel k = OfReading k ⊎ (k ≡ 12)
@@ -38,7 +38,7 @@ pub record Refuses (b : List ℕ) : Type 0 where
   pub of-text : (g k p : ℕ) → goalText b g ≡ refused k p → OfText k
   pub of-check : (t : List ℕ) (k p : ℕ) → check b t ≡ refused k p → OfCheck k
   pub of-form : (buf : List ℕ) (k p : ℕ) → F.formAnswer b buf ≡ refused k p → OfForm k
-  pub of-estimate : (o : Outcome ℕ) (k p : ℕ) → F.Estimated (F.formText b) o → o ≡ refused k p → OfEstimate k
+  pub of-length : (k p : ℕ) → F.formLength b ≡ refused k p → OfLength k
   pub of-mel : (buf : List ℕ) (k p : ℕ) → M.melAnswer b buf ≡ refused k p → OfMel k
 
 -- ---- None of these is 0: an answer's number is 0 exactly if it is accepted. 13 is answered exactly with its four goals.
@@ -47,7 +47,7 @@ pub record Numbers (b : List ℕ) : Type 0 where
   pub of-text : (g : ℕ) → (values noSpan (goalText b g) .number ≡ 0) ↔ Accepted (goalText b g)
   pub of-check : (t : List ℕ) → (values same (check b t) .number ≡ 0) ↔ Accepted (check b t)
   pub of-form : (buf : List ℕ) → (values 0 (F.formAnswer b buf) .number ≡ 0) ↔ Accepted (F.formAnswer b buf)
-  pub of-estimate : (o : Outcome ℕ) → F.Estimated (F.formText b) o → (values 0 o .number ≡ 0) ↔ Accepted o
+  pub of-length : (values 0 (F.formLength b) .number ≡ 0) ↔ Accepted (F.formLength b)
   pub of-mel : (buf : List ℕ) → (values 0 (M.melAnswer b buf) .number ≡ 0) ↔ Accepted (M.melAnswer b buf)
   pub of-thirteen : (buf : List ℕ) → (F.formAnswer b buf ≡ refused 13 0) ↔ ((q : Four) × (F.shown b ≡ some q))
 

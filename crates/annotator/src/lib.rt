@@ -10,7 +10,7 @@
 // read(bytes)             the goal count n                                                     reading              Answers.read
 // order(bytes)            n and the closed graph: row g - 1 has the goals that g is before     reading              Answers.read, Answers.orderGraph
 // form(bytes, out)        the length of the house form's text, which fills the start of `out`  reading, 13, 12      form: Form.formAnswer, shown, formBuffer
-// form_length(bytes)      a number from the form's length up to 160, which one is left free    reading, 13          form: Form.Estimated, formText, shown
+// form_length(bytes)      the length of the house form's text, exactly                         reading, 13          form: Form.formLength, shown
 // mel(bytes, out)         the length of the MEL annotation, which fills the start of `out`     reading, 12          mel: Annotation.melAnswer, melBuffer
 // find_text(bytes, goal)  the place and the length of the goal's text in the record            reading, 14          Answers.goalText
 // goal_text(bytes, goal)  the part of the lent record that holds this text                     as find_text         Answers.textPart, Part.PartAt
@@ -103,9 +103,9 @@ pub fn form(bytes: &[u8], out: &mut [u8]) -> form::FormAnswer
     form::write(bytes, out)
 }
 
-// Estimates the length of a record's form: a number from it up to 160, or a refusal, 13 with its four goals.
+// The length of a record's form, or a refusal, 13 with its four goals. A buffer of that length suffices for the form, and one byte less never does.
 pub fn form_length(bytes: &[u8]) -> form::FormAnswer
-    ensures { λ r. ⌜ P.Estimated (P.formText (now (bytes .entry))) (P.outcome r) ⌝ }
+    ensures { λ r. ⌜ P.outcome r ≡ P.formLength (now (bytes .entry)) ⌝ }
     ensures { λ r. ⌜ P.goals r ≡ P.shown (now (bytes .entry)) ⌝ }
 {
     form::length(bytes)

@@ -1,4 +1,4 @@
--- What writing the form answers, by what reading and the search for an N give; and the length estimate.
+-- What writing the form answers, by what reading and the search for an N give; and the form's length.
 use mathlib.Core.Path.{_≡_, refl, sym, ap, ap₂, _∙_}
 use mathlib.Core.Bool.{Bool, cond}
 use mathlib.Core.List.{List, _++_}
@@ -12,14 +12,14 @@ use Rattle.buffer.proofs.Lent.{fits-le}
 use Rattle.record_rules.specs.declared.Reading.the-variants.{Fine, Refused}
 use Rattle.record_rules.specs.declared.Refusal.{Refusal}
 use Rattle.record_rules.specs.Reading.{reading}
-use Rattle.record_rules.specs.Outcome.{Outcome, refused, accepted, sizeIn, bufferAfter, values}
+use Rattle.record_rules.specs.Outcome.{Outcome, refused, accepted, next, sizeIn, bufferAfter, values}
 use Rattle.record_rules.proofs.Outcomes.{told-apart, one-value, one-refusal, read-refused, read-fine, size-fits}
 use Rattle.record_fields.specs.Fields.{goalCount}
 use Rattle.expression.specs.Search.{Four}
 use Rattle.expression.specs.Form.{form}
 use Rattle.expression.specs.Text as T
 use Rattle.order.specs.Order.{before}
-use Rattle.form.specs.Form.{estimateLimit, orThirteen, firstFour, formText, shown, Estimated}
+use Rattle.form.specs.Form.{orThirteen, firstFour, formText, shown}
 
 -- ---- the search's answer
 module _ {o : Option Four} (t : List ℕ) where
@@ -77,8 +77,7 @@ pub held-refused : (x : Outcome (List ℕ)) (buf : List ℕ) → Held x buf → 
 held-refused (refused l q) buf h e = let (m, n) = one-refusal e in ap₂ refused m n
 held-refused (accepted t) buf h e = absurd (told-apart (e ∙ sym (size-fits t buf refl (h t refl))))
 
--- ---- the estimate: that answer
-pub estimated : (x : Outcome (List ℕ)) (buf : List ℕ) → Held x buf → {o : Outcome ℕ} → o ≡ sizeIn x buf → length buf ≤ estimateLimit → Estimated x o
-estimated (refused k p) buf h e m = e
-estimated (accepted t) buf h e m =
-    record { number = length t; least = omega arith; most = omega (arith, h t refl, m); gives = e ∙ sym (size-fits t buf refl (h t refl)) }
+-- the answer is the text's length, whatever it is
+pub held-length : (x : Outcome (List ℕ)) (buf : List ℕ) → Held x buf → sizeIn x buf ≡ next x (λ t. accepted (length t))
+held-length (refused k p) buf h = refl
+held-length (accepted t) buf h = sym (size-fits t buf refl (h t refl))

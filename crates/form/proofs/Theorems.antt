@@ -1,20 +1,20 @@
--- T5, T6 and T9.
+-- T5, T6 and T9, and request 3 of 02.
 -- T9: the closed graph is the chain order (`before-is`), a strict order from lower to higher numbers (`before-order`), and closing again changes nothing
 -- (`before-closed`). T5: the search finds q exactly if q is the first N by a, then b, c, d (`first-n-is`), and none exactly if there is none (`no-n-is`).
 -- T6, demand 3 (`demand`): for every well-formed record "no form" is answered exactly if no expression has the record's order, with the first four goals
 -- that show it; otherwise the call writes the text of the only house form of the record's order, or names its length. Its words are those of
--- specs/Demand.antt.
+-- specs/Demand.antt. The length estimate is exact (`length-exact`).
 pub use Rattle.order.proofs.Theorems.{before-is, before-order, before-closed}
 pub use Rattle.expression.proofs.Theorems.{first-n-is, no-n-is}
 use mathlib.Core.Path.{_≡_, refl, sym, ap, _∙_, subst}
 use mathlib.Core.Bool.{Bool, true, false, _||_, cond, true≢false}
-use mathlib.Core.List.{List, _++_}
+use mathlib.Core.List.{List, [], _++_, append-nil}
 use mathlib.Core.Logic.{inl, inr, _↔_}
 use mathlib.Core.Option.{Option, none, some}
 use Prim.Native.Nat.{ℕ, _≤_}
 use native.Mathlib.Omega.{arith}
 use lib.Dec.{eqb}
-use lib.ListN.{length, drop, replicate, length-replicate}
+use lib.ListN.{length, drop, replicate, length-replicate, drop-of-length-le}
 use borrow.Author.Tests.{eqb-true}
 use Rattle.logic.proofs.Bools.{iff, is-false, or-elim, cond-le}
 use Rattle.buffer.specs.Lent.{fits}
@@ -36,11 +36,11 @@ use Rattle.expression.proofs.Theorems.{uses-once, order-no-n, no-four, n-distin
 use Rattle.record_rules.specs.declared.Reading.{Reading}
 use Rattle.record_rules.specs.declared.Reading.the-variants.{Fine, Refused}
 use Rattle.record_rules.specs.Reading.{reading}
-use Rattle.record_rules.specs.Outcome.{Outcome, refused, accepted, onlyIf, sizeIn}
+use Rattle.record_rules.specs.Outcome.{Outcome, refused, accepted, next, onlyIf, sizeIn}
 use Rattle.record_rules.proofs.Outcomes.{told-apart, one-value, size-fits, size-short, buffer-short, same-answer, same-buffer}
-use Rattle.form.specs.Form.{orThirteen, formText, formAnswer, Estimated}
+use Rattle.form.specs.Form.{orThirteen, formText, formAnswer, formLength, LengthExact}
 use Rattle.form.specs.Demand.{Expresses, FourGoals, OneOf, ExpressesFour, NoForm, HasForm, Demand}
-use Rattle.form.proofs.Outcomes.{thirteen-none, thirteen-some, form-refused, form-fine, shown-fine, Held, stored-fit, estimated}
+use Rattle.form.proofs.Outcomes.{thirteen-none, thirteen-some, form-refused, form-fine, shown-fine, Held, stored-fit, held-length}
 
 -- 13 is answered for an N alone: else a text is written, or 12 answered
 only-thirteen : (o : Option Four) (t buf : List ℕ) → sizeIn (orThirteen o t) buf ≡ refused 13 0 → (q : Four) × (o ≡ some q)
@@ -204,6 +204,27 @@ module _ (b : List ℕ) where
           names = λ buf l. (same-answer buf x ∙ sym (size-short t buf refl l), same-buffer buf x ∙ sym (buffer-short t buf l));
         }
 
+    -- 02, 3: for every record with a form, a buffer of the answered length is written, and one byte less is refused by 12 with this length
+    pub length-exact : (e : Expr) → Expresses b e → LengthExact b
+    length-exact e y = go (firstN R n) refl
+      where
+        t : List ℕ
+        t = text (form R n)
+
+        go : (o : Option Four) → firstN R n ≡ o → LengthExact b
+        go none h =
+            let f = has-form h in
+            let x : formText b ≡ accepted t = settles ∙ thirteen-none t h in
+            record {
+              size = length t;
+              answers = ap (λ (o : Outcome (List ℕ)). next o (λ t. accepted (length t))) x;
+              suffices = λ buf l.
+                  let (a, k) = f .writes buf (omega (arith, l)) in
+                  (a, ap accepted (k ∙ ap (_++_ t) (drop-of-length-le buf {i = length t} (omega (arith, l))) ∙ append-nil t) ∙ sym x);
+              never = λ buf l. f .names buf (omega (arith, l));
+            }
+        go (some q) h = absurd (exactly [] .0 (found-thirteen [] q h) e y)
+
     pub demand : Demand b
     demand =
         record {
@@ -234,6 +255,6 @@ module _ (b : List ℕ) where
   pub form-held : Held (formText b) (replicate formLimit 0)
   form-held t e = omega (arith, form-short t e, length-replicate {A = ℕ} formLimit 0)
 
-  -- what writing into the array answers is an estimate of the length
-  pub estimate : {o : Outcome ℕ} → o ≡ formAnswer b (replicate formLimit 0) → Estimated (formText b) o
-  estimate e = estimated (formText b) (replicate formLimit 0) form-held e (omega (arith, length-replicate {A = ℕ} formLimit 0))
+  -- what writing into that array answers is the form's length
+  pub length-is : formAnswer b (replicate formLimit 0) ≡ formLength b
+  length-is = held-length (formText b) (replicate formLimit 0) form-held

@@ -2,10 +2,10 @@
 use mathlib.Core.Path.{_≡_}
 use mathlib.Core.List.{List}
 use mathlib.Core.Option.{Option, none, some}
-use Prim.Native.Nat.{ℕ, _≤_}
+use Prim.Native.Nat.{ℕ, suc}
 use lib.ListN.{length}
 use Rattle.record_fields.specs.Fields.{goalCount}
-use Rattle.record_rules.specs.Outcome.{Outcome, refused, accepted, readThen, values, sizeIn, bufferAfter}
+use Rattle.record_rules.specs.Outcome.{Outcome, refused, accepted, readThen, next, values, sizeIn, bufferAfter}
 use Rattle.expression.specs.Search.{Four, firstN}
 use Rattle.expression.specs.Form.{form}
 use Rattle.expression.specs.Text as T
@@ -49,17 +49,13 @@ goals (W.Done n) = none
 goals (W.NoForm q) = some (four q)
 goals (W.Refused r) = none
 
--- ---- Length estimate. 01: "it gives a number from the form's length up to 160": `number` is the free part of the promise
-abbrev pub estimateLimit : ℕ
-estimateLimit = 160
+-- ---- The length estimate. 02, 3: "The estimate shall be exactly the number of bytes that the form takes": refused as the text is, or its length
+abbrev pub formLength : List ℕ → Outcome ℕ
+formLength b = next (formText b) (λ t. accepted (length t))
 
-pub record Enough (t : List ℕ) (o : Outcome ℕ) : Type 0 where
-  pub number : ℕ
-  pub least : length t ≤ number
-  pub most : number ≤ estimateLimit
-  pub gives : o ≡ accepted number
-
--- 01: "Length estimate: 13. Otherwise it gives a number", for the text of the form
-abbrev pub Estimated : Outcome (List ℕ) → Outcome ℕ → Type 0
-Estimated (refused k p) o = o ≡ refused k p
-Estimated (accepted t) o = Enough t o
+-- "so a buffer of that length always suffices and one byte less never does": the two operations together, on one record
+pub record LengthExact (b : List ℕ) : Type 0 where
+  pub size : ℕ
+  pub answers : formLength b ≡ accepted size
+  pub suffices : (buf : List ℕ) → length buf ≡ size → (formAnswer b buf ≡ accepted size) × (accepted (formBuffer b buf) ≡ formText b)
+  pub never : (buf : List ℕ) → suc (length buf) ≡ size → (formAnswer b buf ≡ refused 12 size) × (formBuffer b buf ≡ buf)

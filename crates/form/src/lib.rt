@@ -1,4 +1,4 @@
-// Writing the house form of a record's order, and estimating its length.
+// Writing the house form of a record's order, and its length alone.
 use form_first_n::FirstN;
 use form_first_n::Four;
 use graph::Graph;
@@ -101,9 +101,9 @@ pub fn write(b: &[u8], out: &mut [u8]) -> FormAnswer
     }
 }
 
-// Estimates the length of a record's form: what writing it into a buffer that holds every form answers.
+// The length of a record's form: what writing it into a buffer that holds every form answers.
 pub fn length(b: &[u8]) -> FormAnswer
-    ensures { λ r. ⌜ F.Estimated (F.formText (now (b .entry))) (F.outcome r) ⌝ }
+    ensures { λ r. ⌜ F.outcome r ≡ F.formLength (now (b .entry)) ⌝ }
     ensures { λ r. ⌜ F.goals r ≡ F.shown (now (b .entry)) ⌝ }
 {
     let mut space = [0u8; LONGEST];

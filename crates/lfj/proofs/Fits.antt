@@ -108,7 +108,7 @@ module _ (b : List ℕ) (bytes : Bytes b) where
           let d = first-difference n (before b) (E.before e) (p .0) (p .1) h in
           (omega (arith, d .in-i .1, w .goals-to), omega (arith, d .in-j .1, w .goals-to))
 
-  -- ---- the form: a length up to 160
+  -- ---- the form: a length up to 146
   form-places : Fit (λ t. Unit {0}) (F.formText b)
   unfolding F.formText
   form-places = all-read (λ k p. Small p) (λ t. Unit {0}) b _ limit (λ e. thirteen-fits (λ t. Unit {0}) (F.firstFour b) _ tt)
@@ -123,12 +123,8 @@ module _ (b : List ℕ) (bytes : Bytes b) where
   form-fits : (buf : List ℕ) → Fit (λ n. n ≤ 146) (F.formAnswer b buf)
   form-fits buf = all-size (λ k p. Small p) (λ n. n ≤ 146) (λ t. length t ≤ 146) (F.formText b) buf text-of-form (λ t h. (omega arith, h))
 
-  estimate-fits : (o : Outcome ℕ) → F.Estimated (F.formText b) o → Fit (λ n. n ≤ 160) o
-  estimate-fits o h = go (F.formText b) text-of-form h
-    where
-      go : (x : Outcome (List ℕ)) → Fit (λ t. length t ≤ 146) x → F.Estimated x o → Fit (λ n. n ≤ 160) o
-      go (refused k p) f e = subst (Fit (λ n. n ≤ 160)) (sym e) f
-      go (accepted t) f e = subst (Fit (λ n. n ≤ 160)) (sym (e .gives)) (e .most)
+  length-fits : Fit (λ n. n ≤ 146) (F.formLength b)
+  length-fits = all-next (λ k p. Small p) (λ n. n ≤ 146) (λ t. length t ≤ 146) (F.formText b) _ text-of-form (λ t h. h)
 
   -- 13's four are goals
   thirteen-goals : (q : Four) → F.shown b ≡ some q → (q .a < 2 ^ 6) × (q .b < 2 ^ 6) × (q .c < 2 ^ 6) × (q .d < 2 ^ 6)
@@ -162,7 +158,7 @@ module _ (b : List ℕ) (bytes : Bytes b) where
         of-read = λ k p. all-refused _ _ read-fits;
         of-after = λ g k p. all-refused _ _ (after-fits g);
         of-form = λ buf k p. all-refused _ _ (form-fits buf);
-        of-estimate = λ o k p e. all-refused _ _ (estimate-fits o e);
+        of-length = λ k p. all-refused _ _ length-fits;
         of-mel = λ buf k p. all-refused _ _ (mel-fits buf);
         of-text = λ g k p. all-refused _ _ (text-fits g);
         of-check = λ t k p. all-refused _ _ (check-fits t);
@@ -172,7 +168,7 @@ module _ (b : List ℕ) (bytes : Bytes b) where
   values-fit =
       record {
         of-form = λ buf n e. let h = all-accepted _ _ (form-fits buf) e in omega (arith, h);
-        of-estimate = λ o n e f. let h = all-accepted _ _ (estimate-fits o e) f in omega (arith, h);
+        of-length = λ n e. let h = all-accepted _ _ length-fits e in omega (arith, h);
         of-thirteen = thirteen-goals;
         of-mel = λ buf n. all-accepted _ _ (mel-fits buf);
         of-text = λ g s. all-accepted _ _ (text-fits g);
@@ -210,7 +206,7 @@ module _ (b : List ℕ) where
         of-read = number-says (λ n. n) 0 (read b) read-low;
         of-after = λ g. number-says (λ m. m) 0 (after b g) (after-low g);
         of-form = λ buf. form-number (F.formAnswer b buf) (F.shown b);
-        of-estimate = λ o e. form-number o (F.shown b);
+        of-length = form-number (F.formLength b) (F.shown b);
         of-mel = λ buf. number-says _ 0 (melAnswer b buf) (any _ (λ n. omega arith) (melAnswer b buf));
         of-text = λ g. number-says _ noSpan (goalText b g) (any _ (λ s. omega arith) (goalText b g));
         of-check = λ t. number-says verdictWord same (check b t) (any verdictWord verdict-low (check b t));
@@ -252,7 +248,7 @@ zero-accepted b =
       of-read = told-zero (s .of-read) (n .of-read);
       of-after = λ g. told-zero (s .of-after g) (after-accepted b g);
       of-form = λ buf. told-zero (s .of-form buf) (n .of-form buf);
-      of-estimate = λ o e. told-zero (s .of-estimate o e) (n .of-estimate o e);
+      of-length = told-zero (s .of-length) (n .of-length);
       of-mel = λ buf. told-zero (s .of-mel buf) (n .of-mel buf);
       of-text = λ g. told-zero (s .of-text g) (n .of-text g);
       of-check = λ t. told-zero (s .of-check t) (n .of-check t);

@@ -28,7 +28,7 @@ use Rattle.annotator.specs.declared.TextAnswer.the-variants.{At, NoText}
 use Rattle.annotator.specs.declared.CheckAnswer.{CheckAnswer}
 use Rattle.annotator.specs.declared.CheckAnswer.the-variants.{Verdict, Rejected}
 use Rattle.annotator.specs.Answers.{readOutcome, textOutcome, checkOutcome}
-use Rattle.lfj.specs.Words.{refusalWord, word, readWord, goalsWord, formWord, EstimateWord, melWord, textWord, verdictWord, checkWord}
+use Rattle.lfj.specs.Words.{refusalWord, word, readWord, goalsWord, formWord, melWord, textWord, verdictWord, checkWord}
 
 -- ---- A refusal's number and place make its word, and a value its own.
 module _ {s : ReadAnswer} {o : Outcome ℕ} (e : readOutcome s ≡ o) where
@@ -74,7 +74,7 @@ same-word f = ap (λ (y : Verdicts.Verdict). verdictWord (verdictOf y)) (sym f)
 pub differs-word : {x : Verdicts.Verdict} (p : Pair) → x ≡ Differs p → p .i % 2 ^ 8 + p .j % 2 ^ 8 * 2 ^ 8 ≡ verdictWord (verdictOf x)
 differs-word p f = ap (λ (y : Verdicts.Verdict). verdictWord (verdictOf y)) (sym f)
 
--- ---- The form, and the estimate of its length: the answer's word, whatever the case.
+-- ---- The form, and its length: the answer's word, whatever the case.
 abbrev pub answerWord : FormAnswer → ℕ
 answerWord s = formWord (F.outcome s) (F.goals s)
 
@@ -92,6 +92,3 @@ module _ {s : FormAnswer} {w : ℕ} where
 
 pub form-word : (s : FormAnswer) {w : ℕ} {o : Outcome ℕ} {g : Option Four} → F.outcome s ≡ o → F.goals s ≡ g → w ≡ answerWord s → w ≡ formWord o g
 form-word s e f h = h ∙ ap₂ formWord e f
-
-pub length-word : (s : FormAnswer) {w : ℕ} (b : List ℕ) → F.Estimated (F.formText b) (F.outcome s) → F.goals s ≡ F.shown b → w ≡ answerWord s → EstimateWord b w
-length-word s b e f h = record { answer = F.outcome s; estimated = e; says = form-word s refl f h }

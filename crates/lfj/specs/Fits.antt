@@ -5,11 +5,11 @@ use mathlib.Core.Logic.{_↔_}
 use mathlib.Core.Option.{some}
 use Prim.Native.Nat.{ℕ, _/_, _^_, _≤_, _<_}
 use Rattle.record_fields.specs.Fields.{goalCount}
-use Rattle.record_rules.specs.Outcome.{Outcome, refused, accepted, values, Accepted}
+use Rattle.record_rules.specs.Outcome.{refused, accepted, values, Accepted}
 use Rattle.record.specs.WellFormed.{WellFormed}
 use Rattle.expression.specs.Search.{Four}
 use Rattle.expression_grammar.specs.Check.{same, differs}
-use Rattle.form.specs.Form.{formText, formAnswer, shown, Estimated}
+use Rattle.form.specs.Form.{formAnswer, formLength, shown}
 use Rattle.mel.specs.Annotation.{melAnswer}
 use Rattle.annotator.specs.declared.Span.{Span}
 use Rattle.annotator.specs.Answers.{read, goalText, noSpan, check}
@@ -20,7 +20,7 @@ pub record PlacesFit (b : List ℕ) : Type 0 where
   pub of-read : (k p : ℕ) → read b ≡ refused k p → p < 2 ^ 32
   pub of-after : (g k p : ℕ) → after b g ≡ refused k p → p < 2 ^ 32
   pub of-form : (buf : List ℕ) (k p : ℕ) → formAnswer b buf ≡ refused k p → p < 2 ^ 32
-  pub of-estimate : (o : Outcome ℕ) (k p : ℕ) → Estimated (formText b) o → o ≡ refused k p → p < 2 ^ 32
+  pub of-length : (k p : ℕ) → formLength b ≡ refused k p → p < 2 ^ 32
   pub of-mel : (buf : List ℕ) (k p : ℕ) → melAnswer b buf ≡ refused k p → p < 2 ^ 32
   pub of-text : (g k p : ℕ) → goalText b g ≡ refused k p → p < 2 ^ 32
   pub of-check : (t : List ℕ) (k p : ℕ) → check b t ≡ refused k p → p < 2 ^ 32
@@ -28,7 +28,7 @@ pub record PlacesFit (b : List ℕ) : Type 0 where
 -- lengths, a goal's text and goals
 pub record ValuesFit (b : List ℕ) : Type 0 where
   pub of-form : (buf : List ℕ) (n : ℕ) → formAnswer b buf ≡ accepted n → n < 2 ^ 32
-  pub of-estimate : (o : Outcome ℕ) (n : ℕ) → Estimated (formText b) o → o ≡ accepted n → n < 2 ^ 32
+  pub of-length : (n : ℕ) → formLength b ≡ accepted n → n < 2 ^ 32
   pub of-thirteen : (q : Four) → shown b ≡ some q → (q .a < 2 ^ 6) × (q .b < 2 ^ 6) × (q .c < 2 ^ 6) × (q .d < 2 ^ 6)
   pub of-mel : (buf : List ℕ) (n : ℕ) → melAnswer b buf ≡ accepted n → n < 2 ^ 32
   pub of-text : (g : ℕ) (s : Span) → goalText b g ≡ accepted s → (s .place < 2 ^ 32) × (s .size < 2 ^ 16)
@@ -39,7 +39,7 @@ pub record NumbersSay (b : List ℕ) : Type 0 where
   pub of-read : readWord (read b) / 2 ^ 56 ≡ values 0 (read b) .number
   pub of-after : (g : ℕ) → afterWord (after b g) / 2 ^ 56 ≡ values 0 (after b g) .number
   pub of-form : (buf : List ℕ) → formWord (formAnswer b buf) (shown b) / 2 ^ 56 ≡ values 0 (formAnswer b buf) .number
-  pub of-estimate : (o : Outcome ℕ) → Estimated (formText b) o → formWord o (shown b) / 2 ^ 56 ≡ values 0 o .number
+  pub of-length : formWord (formLength b) (shown b) / 2 ^ 56 ≡ values 0 (formLength b) .number
   pub of-mel : (buf : List ℕ) → melWord (melAnswer b buf) / 2 ^ 56 ≡ values 0 (melAnswer b buf) .number
   pub of-text : (g : ℕ) → textWord (goalText b g) / 2 ^ 56 ≡ values noSpan (goalText b g) .number
   pub of-check : (t : List ℕ) → checkWord (check b t) / 2 ^ 56 ≡ values same (check b t) .number
@@ -49,7 +49,7 @@ pub record ZeroAccepted (b : List ℕ) : Type 0 where
   pub of-read : (readWord (read b) / 2 ^ 56 ≡ 0) ↔ Accepted (read b)
   pub of-after : (g : ℕ) → (afterWord (after b g) / 2 ^ 56 ≡ 0) ↔ (WellFormed b × (1 ≤ g) × (g ≤ goalCount b))
   pub of-form : (buf : List ℕ) → (formWord (formAnswer b buf) (shown b) / 2 ^ 56 ≡ 0) ↔ Accepted (formAnswer b buf)
-  pub of-estimate : (o : Outcome ℕ) → Estimated (formText b) o → (formWord o (shown b) / 2 ^ 56 ≡ 0) ↔ Accepted o
+  pub of-length : (formWord (formLength b) (shown b) / 2 ^ 56 ≡ 0) ↔ Accepted (formLength b)
   pub of-mel : (buf : List ℕ) → (melWord (melAnswer b buf) / 2 ^ 56 ≡ 0) ↔ Accepted (melAnswer b buf)
   pub of-text : (g : ℕ) → (textWord (goalText b g) / 2 ^ 56 ≡ 0) ↔ Accepted (goalText b g)
   pub of-check : (t : List ℕ) → (checkWord (check b t) / 2 ^ 56 ≡ 0) ↔ Accepted (check b t)

@@ -36,19 +36,13 @@ after b g = readThen b (ofGoal b g (accepted (goalsOf (goalCount b) (before b g)
 unfoldable pub afterWord : Outcome ℕ → ℕ
 afterWord o = word (λ m. m) o
 
--- `lfj_form`: the length; with 13 the goals a, b, c, d at bits 32, 38, 44 and 50, six bits each
+-- `lfj_form`, `lfj_form_length`: the length; with 13 the goals a, b, c, d at bits 32, 38, 44 and 50, six bits each
 abbrev pub goalsWord : Option Four → ℕ
 goalsWord none = 0
 goalsWord (some q) = q .a % 2 ^ 6 * 2 ^ 32 + q .b % 2 ^ 6 * 2 ^ 38 + q .c % 2 ^ 6 * 2 ^ 44 + q .d % 2 ^ 6 * 2 ^ 50
 
 unfoldable pub formWord : Outcome ℕ → Option Four → ℕ
 formWord o s = word (λ n. n % 2 ^ 32) o + goalsWord s
-
--- `lfj_form_length`: the estimate, with its free part: w is the word of an answer that 01 allows
-pub record EstimateWord (b : List ℕ) (w : ℕ) : Type 0 where
-  pub answer : Outcome ℕ
-  pub estimated : F.Estimated (F.formText b) answer
-  pub says : w ≡ formWord answer (F.shown b)
 
 -- `lfj_mel`: the length
 unfoldable pub melWord : Outcome ℕ → ℕ

@@ -94,10 +94,10 @@ pub extern "C" fn lfj_form(bytes: &[u8], out: &mut [u8]) -> u64
     }
 }
 
-// Estimates the form's length.
+// The form's length.
 #[no_mangle]
 pub extern "C" fn lfj_form_length(bytes: &[u8]) -> u64
-    ensures { λ r. ⌜ W.EstimateWord (now (bytes .entry)) r ⌝ }
+    ensures { λ r. ⌜ r ≡ W.formWord (F.formLength (now (bytes .entry))) (F.shown (now (bytes .entry))) ⌝ }
 {
     match annotator::form_length(bytes) {
         FormAnswer::Refused(r) => refused(r),

@@ -130,18 +130,11 @@ fn run_form(bytes: &[u8], out: &mut [u8]) {
     }
 }
 
-// The bounds of the case where the estimate lies between them, and else the estimate.
-fn run_length(bytes: &[u8], lowest: usize, highest: usize) {
+fn run_length(bytes: &[u8]) {
     match annotator::form_length(bytes) {
         form::FormAnswer::Done(k) => {
-            if (lowest <= k) & (k <= highest) {
-                say(b"ok");
-                say_number(lowest);
-                say_number(highest);
-            } else {
-                say(b"outside");
-                say_number(k);
-            }
+            say(b"ok");
+            say_number(k);
             say(b"\n");
         }
         form::FormAnswer::NoForm(q) => say_four(q),
@@ -242,6 +235,8 @@ fn run_first(line: &[u8], bytes: &[u8], number: u32) {
         run_waits(bytes);
     } else if check::same(operation, b"order") {
         run_order(bytes);
+    } else if check::same(operation, b"length") {
+        run_length(bytes);
     } else if check::same(operation, b"text") {
         run_text(bytes, number);
     } else if check::same(operation, b"sheet") {
@@ -259,10 +254,6 @@ fn run_operation(line: &[u8], bytes: &[u8]) {
         run_writer(line, bytes, number as usize);
     } else if check::same(operation, b"form") {
         run_writer(line, bytes, number as usize);
-    } else if check::same(operation, b"length") {
-        let lowest = case_lines::number(case_lines::field(line, 5)) as usize;
-        let highest = case_lines::number(case_lines::field(line, 6)) as usize;
-        run_length(bytes, lowest, highest);
     } else {
         run_first(line, bytes, number as u32);
     }

@@ -5,7 +5,7 @@ use crate::sheet::sheet;
 use crate::{Order, Refusal, Verdict};
 
 /// The field K: how many change requests have landed.
-pub const LANDED: u8 = 2;
+pub const LANDED: u8 = 3;
 
 /// The operations of the paper, as a case calls them.
 pub trait Annotator {
@@ -112,7 +112,6 @@ fn written(
 }
 
 /// What the annotator answers to `OPERATION K INPUT..`. `skip` for what it does not offer.
-/// The estimate is one number, where the case has the least and the most it may be.
 pub fn answer(annotator: &impl Annotator, question: &str) -> Result<String, String> {
     let words: Vec<&str> = question.split(' ').collect();
     let field = |at: usize| words.get(at).copied().ok_or(format!("too short: {question}"));
@@ -147,21 +146,6 @@ pub fn answer(annotator: &impl Annotator, question: &str) -> Result<String, Stri
     Ok(answer.unwrap_or_else(refused))
 }
 
-/// Does an answer meet the expected one? The estimate may be any number of a range.
-pub fn meets(question: &str, answer: &str, expected: &str) -> bool {
-    let range = |text: &str| -> Option<(u32, u32)> {
-        let (least, most) = text.strip_prefix("ok ")?.split_once(' ')?;
-        Some((least.parse().ok()?, most.parse().ok()?))
-    };
-    if question.starts_with("length ") {
-        let given = answer.strip_prefix("ok ").and_then(|number| number.parse().ok());
-        if let (Some((least, most)), Some(given)) = (range(expected), given) {
-            return (least..=most).contains(&given);
-        }
-    }
-    answer == expected
-}
-
 /// How the answers to a list of cases came out.
 #[derive(Default, Debug, PartialEq, Eq)]
 pub struct Tally {
@@ -187,7 +171,7 @@ pub fn run(
         let given = answer(annotator, question).map_err(|e| format!("line {}: {e}", number + 1))?;
         if given == "skip" {
             tally.skipped += 1;
-        } else if meets(question, &given, expected) {
+        } else if given == expected {
             tally.agree += 1;
         } else {
             tally.differ += 1;

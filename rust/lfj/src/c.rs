@@ -17,7 +17,7 @@ unsafe extern "C" {
     pub fn lfj_after(record: *const u8, n: usize, goal: u32) -> u64;
     /// The length of the fork-join expression, which stands at `out`.
     pub fn lfj_form(record: *const u8, n: usize, out: *mut u8, room: usize) -> u64;
-    /// The length estimate.
+    /// The form's length.
     pub fn lfj_form_length(record: *const u8, n: usize) -> u64;
     /// The length of the MEL annotation, which stands at `out`.
     pub fn lfj_mel(record: *const u8, n: usize, out: *mut u8, room: usize) -> u64;

@@ -142,7 +142,8 @@ pub fn form_text(record: &[u8]) -> Result<String, Refusal> {
     Ok(out[..length].iter().map(|byte| *byte as char).collect())
 }
 
-/// A length that suffices for the fork-join expression: from its own up to 160.
+/// The length of the fork-join expression: a buffer of so many bytes suffices for [`form`], and
+/// one byte less never does.
 ///
 /// Refusal 13, as with [`form`].
 ///
@@ -150,8 +151,8 @@ pub fn form_text(record: &[u8]) -> Result<String, Refusal> {
 /// # let record = b"LFJ\0\x01\x03\x01\0\0\0\0\0\0\0\0\x01\0\0\0\0\0\0\0\0\
 /// #     \0\0\0\0\0\0\0\x01\x01a\0\0\0\0\0\0\0\0\x01b\0\0\0\0\0\0\0\x01\x01c";
 /// let mut out = vec![0; lfj::form_length(record)?];
-/// let length = lfj::form(record, &mut out)?;
-/// assert_eq!(&out[..length], b"(1,3)&2");
+/// lfj::form(record, &mut out)?;
+/// assert_eq!(out, b"(1,3)&2");
 /// # Ok::<(), lfj::Refusal>(())
 /// ```
 #[inline]

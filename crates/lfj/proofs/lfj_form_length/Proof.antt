@@ -1,4 +1,4 @@
-use Rattle.lfj.proofs.Words.{form-refused, form-none, form-done, length-word}
+use Rattle.lfj.proofs.Words.{form-refused, form-none, form-done, form-word}
 use borrow.Author.Needs.{needs}
 use Rattle.lfj.proofs.lfj_form_length.Statement.{statement}
 use Rattle.lfj.proofs.lfj_form_length.Tie as tie
@@ -25,13 +25,13 @@ low-requires : tie.Need-low-requires
 low-requires c κs = search needs
 
 returns : tie.Need-returns
-returns c = let a = c .before .before .before .before in let f = a .form-length .ensures in length-word (a .form-length .result) (a .before .before .args .bytes .now) (f .0) (f .1) (form-refused _ (c .before .before .r .given .1) (c .refused .ensures))
+returns c = let a = c .before .before .before .before in let f = a .form-length .ensures in form-word (a .form-length .result) (f .0) (f .1) (form-refused _ (c .before .before .r .given .1) (c .refused .ensures))
 
 returns-2 : tie.Need-returns-2
-returns-2 c = let a = c .before .before .before .before in let f = a .form-length .ensures in length-word (a .form-length .result) (a .before .before .args .bytes .now) (f .0) (f .1) (form-none _ (c .before .before .q .given .1) (c .no-form .ensures))
+returns-2 c = let a = c .before .before .before .before in let f = a .form-length .ensures in form-word (a .form-length .result) (f .0) (f .1) (form-none _ (c .before .before .q .given .1) (c .no-form .ensures))
 
 returns-3 : tie.Need-returns-3
-returns-3 c = let a = c .before .before .before .before in let f = a .form-length .ensures in length-word (a .form-length .result) (a .before .before .args .bytes .now) (f .0) (f .1) (form-done _ (c .before .before .n .given .1) (c .low .ensures))
+returns-3 c = let a = c .before .before .before .before in let f = a .form-length .ensures in form-word (a .form-length .result) (f .0) (f .1) (form-done _ (c .before .before .n .given .1) (c .low .ensures))
 
 pub lfj-form-length-spec : {M : Type 1} → statement M
 lfj-form-length-spec =

@@ -191,7 +191,7 @@ impl Run {
             self.hold_word(given, text_word(answer), || question("text"));
         }
         let form = self.form(random, record);
-        self.estimate(record, form.len());
+        self.length(record);
         self.mel(random, record);
         for _ in 0..2 {
             let text = generate::text(random, goals as usize, &form);
@@ -223,21 +223,19 @@ impl Run {
         text[..length].to_vec()
     }
 
-    /// From the form's length up to 160, or the same refusal.
-    fn estimate(&mut self, record: &[u8], least: usize) {
+    /// The form's length; a room of so many bytes suffices for the form, and one byte less does not.
+    fn length(&mut self, record: &[u8]) {
+        let question = || format!("length {LANDED} {}", hex(record));
         let (proved, hand) = (Proved.form_length(record), Reference.form_length(record));
-        self.met.refusal(&hand);
-        let right = match (&proved, &hand) {
-            (Ok(given), Ok(_)) => (least..=160).contains(&(*given as usize)),
-            _ => proved == hand,
-        };
-        if !right {
-            let question = format!("length {LANDED} {}", hex(record));
-            self.report(question, format!("{proved:?}"), format!("{least} to 160 or {hand:?}"));
-        }
+        let answer = self.hold(proved, hand, question);
         // SAFETY: a slice's pointer is not null and its bytes may be read.
         let given = unsafe { c::lfj_form_length(record.as_ptr(), record.len()) };
-        self.hold_word(given, word(proved), || format!("length {LANDED} {}", hex(record)));
+        self.hold_word(given, word(answer), question);
+        if let Ok(length) = answer {
+            for room in [length as usize, length as usize - 1] {
+                self.write(&FORM, record, room, 0xa5);
+            }
+        }
     }
 
     fn mel(&mut self, random: &mut Random, record: &[u8]) {
@@ -296,8 +294,7 @@ fn run(cases: usize, seed: u64) -> ExitCode {
     if run.differences == 0 { ExitCode::SUCCESS } else { ExitCode::FAILURE }
 }
 
-/// The answer words to a question, the library's and the one wanted; the estimate has a free
-/// part and is left out.
+/// The answer words to a question, the library's and the one wanted.
 fn words(question: &str) -> Option<(u64, u64)> {
     let fields: Vec<&str> = question.split(' ').collect();
     let record = unhex(fields.get(2)?).ok()?;
@@ -315,6 +312,7 @@ fn words(question: &str) -> Option<(u64, u64)> {
             unsafe { c::lfj_form(start, n, out.as_mut_ptr(), out.len()) },
             word(Reference.form(&record, &mut out)),
         ),
+        "length" => (unsafe { c::lfj_form_length(start, n) }, word(Reference.form_length(&record))),
         "mel" => (
             unsafe { c::lfj_mel(start, n, out.as_mut_ptr(), out.len()) },
             word(Reference.mel(&record, &mut out)),

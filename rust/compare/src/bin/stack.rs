@@ -76,9 +76,7 @@ const CALLS: &[Call] = &[
     ("form, 32 goals without one", || {
         lfj::form(&without_form(), &mut vec![0; 146]) == Err(no_form())
     }),
-    ("form_length, the longest", || {
-        lfj::form_length(&longest_form()).is_ok_and(|length| (146..=160).contains(&length))
-    }),
+    ("form_length, the longest", || lfj::form_length(&longest_form()) == Ok(146)),
     ("form_length, 32 goals without one", || lfj::form_length(&without_form()) == Err(no_form())),
     ("mel, 192,127 bytes", || lfj::mel(&longest_mel(), &mut vec![0; 192_127]) == Ok(192_127)),
     ("mel, version 2, 192,127 bytes", || {

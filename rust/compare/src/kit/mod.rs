@@ -40,10 +40,7 @@ impl Lines {
 
     /// A case with the hand-written annotator's answer. The same question is asked once.
     fn ask(&mut self, question: String) -> String {
-        let mut given = answer(&Reference, &question).expect("a question of the kit");
-        if question.starts_with("length ") && given.starts_with("ok ") {
-            given += " 160";
-        }
+        let given = answer(&Reference, &question).expect("a question of the kit");
         if self.asked.insert(question.clone()) {
             self.file.text += &format!("{question} = {given}\n");
             self.file.cases += 1;
@@ -155,7 +152,7 @@ pub fn files() -> Vec<File> {
         order::closure(),
         order::forms(),
         order::no_form(),
-        order::estimate(),
+        order::length(),
         texts::mel_stages(),
         texts::mel_checks(),
         texts::mel_long(),

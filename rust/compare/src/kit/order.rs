@@ -1,4 +1,4 @@
-//! The waiting order, the form and the estimate.
+//! The waiting order, the form and its length.
 
 use super::{Lines, every_order, waiting};
 use crate::build::Parts;
@@ -132,9 +132,8 @@ pub(super) fn no_form() -> Lines {
     lines
 }
 
-pub(super) fn estimate() -> Lines {
-    let mut lines =
-        Lines::new("length", "The length estimate: any number from the form's length up to 160.");
+pub(super) fn length() -> Lines {
+    let mut lines = Lines::new("length", "The length estimate: exactly the form's length.");
     for goals in 1..=4 {
         every_order(goals).iter().for_each(|parts| lines.length(parts));
     }
