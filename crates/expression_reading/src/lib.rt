@@ -122,8 +122,8 @@ pub fn read_text(text: &[u8], n: usize) -> TextReading
                     if sets::subset32(sets::below32(n), met) {
                         let outcome = Reading::Fine;
                         let mut graph = Graph::empty(n);
-                        let rows = graph::transposed(&prior, n);
-                        graph.rows = rows;
+                        graph::transpose(&mut prior, n);
+                        graph.rows = prior;
                         TextReading {
                             outcome,
                             graph,

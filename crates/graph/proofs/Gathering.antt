@@ -7,7 +7,7 @@ use Prim.Native.Nat.{ℕ, suc, _-_, _^_, _≤_, _<_}
 use native.Mathlib.Decide.{ℕ-discrete}
 use native.Mathlib.Omega.{arith}
 use lib.Dec.{eqb, ltb}
-use lib.ListN.{length, getD, set, length-set}
+use lib.ListN.{length, getD, set, replicate, length-set, getD-replicate, length-replicate}
 use lib.Seq.{getD-set-same, getD-set-other}
 use lib.Pow.{pow-pos}
 use borrow.Author.Tests.{lt-ltb, eq-eqb, ne-eqb, eqb-true}
@@ -137,52 +137,31 @@ module _ (w : ℕ) (rows : List ℕ) where
         )
 
 -- ---- an array filled from the last place down
-pub record Filled (w n : ℕ) (f : ℕ → ℕ) (old : List ℕ) (i : ℕ) (l : List ℕ) : Type 0 where
+pub record Filled (w n : ℕ) (f : ℕ → ℕ) (i : ℕ) (l : List ℕ) : Type 0 where
   pub size : length l ≡ w
-  pub left : (k : ℕ) → k < i → getD l k 0 ≡ getD old k 0
   pub done : (k : ℕ) → i ≤ k → k < n → getD l k 0 ≡ f k
   pub past : (k : ℕ) → k < w → n ≤ k → getD l k 0 ≡ 0
 
-pub filled-none : (w n : ℕ) (f : ℕ → ℕ) (rows : List ℕ) → Within w n rows → Filled w n f rows n rows
-filled-none w n f rows inside =
+pub filled-none : (w n : ℕ) (f : ℕ → ℕ) → Filled w n f n (replicate w 0)
+filled-none w n f =
+    record { size = length-replicate w 0; done = λ k a b. absurd (omega arith); past = λ k a b. getD-replicate w k 0 0 a }
+
+pub filled-more : (w n : ℕ) (f : ℕ → ℕ) (i : ℕ) (l : List ℕ) (v : ℕ) → n ≤ w → 0 < i → i ≤ n → Filled w n f i l → v ≡ f (i - 1)
+    → Filled w n f (i - 1) (set l (i - 1) v)
+filled-more w n f i l v few pos le r e =
     record {
-      size = ap length inside ∙ rows-length w n (ahead rows);
-      left = λ k a. refl;
-      done = λ k a b. absurd (omega arith);
-      past = λ k a b. ap (λ (l : List ℕ). getD l k 0) inside ∙ row-past w n (ahead rows) k b;
+      size = length-set l (i - 1) v ∙ r .size;
+      done = λ k a b. at k a b (ℕ-discrete k (i - 1));
+      past = λ k a b. getD-set-other l (i - 1) k v 0 (λ q. omega arith) ∙ r .past k a b;
     }
+  where
+    at : (k : ℕ) → i - 1 ≤ k → k < n → Dec (k ≡ i - 1) → getD (set l (i - 1) v) k 0 ≡ f k
+    at k a b (yes q) =
+        ap (λ (z : ℕ). getD (set l (i - 1) v) z 0) q ∙ getD-set-same l (i - 1) v 0 (omega (arith, r .size)) ∙ e ∙ ap f (sym q)
+    at k a b (no q) = getD-set-other l (i - 1) k v 0 q ∙ r .done k (omega arith) b
 
-module _ (w n : ℕ) (f : ℕ → ℕ) (old : List ℕ) (i : ℕ) (l : List ℕ) (v : ℕ) (few : n ≤ w) (pos : 0 < i) (le : i ≤ n) (r : Filled w n f old i l) (e : v ≡ f (i - 1)) where
-  pub filled-more : Filled w n f old (i - 1) (set l (i - 1) v)
-  filled-more =
-      record {
-        size = length-set l (i - 1) v ∙ r .size;
-        left = λ k a. getD-set-other l (i - 1) k v 0 (λ q. omega arith) ∙ r .left k (omega arith);
-        done = λ k a b. at k a b (ℕ-discrete k (i - 1));
-        past = λ k a b. getD-set-other l (i - 1) k v 0 (λ q. omega arith) ∙ r .past k a b;
-      }
-    where
-      at : (k : ℕ) → i - 1 ≤ k → k < n → Dec (k ≡ i - 1) → getD (set l (i - 1) v) k 0 ≡ f k
-      at k a b (yes q) =
-          ap (λ (z : ℕ). getD (set l (i - 1) v) z 0) q ∙ getD-set-same l (i - 1) v 0 (omega (arith, r .size)) ∙ e ∙ ap f (sym q)
-      at k a b (no q) = getD-set-other l (i - 1) k v 0 q ∙ r .done k (omega arith) b
-
-  -- what is there already need not be put
-  pub filled-same : v ≡ getD old (i - 1) 0 → Filled w n f old (i - 1) l
-  filled-same same =
-      record {
-        size = r .size;
-        left = λ k a. r .left k (omega arith);
-        done = λ k a b. at k a b (ℕ-discrete k (i - 1));
-        past = r .past;
-      }
-    where
-      at : (k : ℕ) → i - 1 ≤ k → k < n → Dec (k ≡ i - 1) → getD l k 0 ≡ f k
-      at k a b (yes q) = ap (λ (z : ℕ). getD l z 0) q ∙ r .left (i - 1) (omega arith) ∙ sym same ∙ e ∙ ap f (sym q)
-      at k a b (no q) = r .done k (omega arith) b
-
-pub filled-all : (w n : ℕ) (f : ℕ → ℕ) (old : List ℕ) (i : ℕ) (l : List ℕ) → i ≡ 0 → Filled w n f old i l → l ≡ table w n f
-filled-all w n f old i l z r = table-ext w n f l (r .size) (λ k a b. r .done k (omega arith) b) (λ k a b. r .past k a b)
+pub filled-all : (w n : ℕ) (f : ℕ → ℕ) (i : ℕ) (l : List ℕ) → i ≡ 0 → Filled w n f i l → l ≡ table w n f
+filled-all w n f i l z r = table-ext w n f l (r .size) (λ k a b. r .done k (omega arith) b) (λ k a b. r .past k a b)
 
 -- ---- the set of the places from i on at which an array keeps what it had
 pub record Kept (n : ℕ) (f : ℕ → ℕ) (old : List ℕ) (i still : ℕ) : Type 0 where
@@ -230,6 +209,17 @@ unfolding sameRows
 kept-all n f old new i still z r e =
     setOf-ext n still (λ k. eqb (getD new k 0) (getD old k 0)) (r .low)
     (λ k l. r .done k (omega arith) l ∙ ap (λ (m : ℕ). eqb m (getD old k 0)) (sym (e k l)))
+
+-- where all are kept, the array has the new elements already
+pub kept-whole : (w n : ℕ) (f : ℕ → ℕ) (old : List ℕ) (i still : ℕ) → Within w n old → i ≡ 0 → Kept n f old i still → still ≡ below n
+    → ((k : ℕ) → k < n → getD old k 0 ≡ f k) × (old ≡ table w n f)
+kept-whole w n f old i still inside z r e = (at, table-ext w n f old (ap length inside ∙ rows-length w n (ahead old)) (λ k a b. at k b) past)
+  where
+    at : (k : ℕ) → k < n → getD old k 0 ≡ f k
+    at k b = sym (eqb-true (f k) (getD old k 0) (sym (r .done k (omega arith) b) ∙ ap (λ (m : ℕ). has m k) e ∙ has-below n k ∙ lt-ltb k n b))
+
+    past : (k : ℕ) → k < w → n ≤ k → getD old k 0 ≡ 0
+    past k a b = ap (λ (l : List ℕ). getD l k 0) inside ∙ row-past w n (ahead old) k b
 
 -- ---- a row of a pass
 some-cut : (n w : ℕ) (f : ℕ → Bool) → n ≤ w → ((k : ℕ) → n ≤ k → f k ≡ false) → someBelow w f ≡ someBelow n f

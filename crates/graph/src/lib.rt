@@ -47,16 +47,16 @@ impl Graph {
     }
 
     // The closure: passes up to the first that adds nothing.
-    pub fn closed(self) -> Graph
+    pub fn closed(mut self) -> Graph
         requires { ⌜ C.IsGraph self ⌝ }
         ensures { λ r. ⌜ r ≡ C.closing self ⌝ }
     {
         let n = self.n;
         let all = sets::below32(n);
-        let mut rows = self.rows;
         loop {
-            let still = pass(&mut rows, n);
+            let still = pass(&mut self.rows, n);
             if still == all {
+                let rows = self.rows;
                 return Graph { n, rows };
             }
         }
@@ -117,7 +117,8 @@ fn kept(still: u32, i: usize, same: bool) -> u32
 }
 
 // One pass: what a chain of two waits gives is added, all of it by the rows at its start. From the last goal down: where the waits go up, the rows behind tell
-// what may be passed over. A row that stays is not stored again. Answers the goals whose rows stay as they were.
+// what may be passed over. The new rows stand apart, and take the place of the old ones only if one of them differs. Answers the goals whose rows stay as they
+// were.
 fn pass(rows: &mut [u32; Graph::MAX], n: usize) -> u32
     requires { ⌜ (n ≤ S.goalLimit) × G.Within S.goalLimit n (now rows) ⌝ }
     ensures { λ r. ⌜
@@ -125,17 +126,18 @@ fn pass(rows: &mut [u32; Graph::MAX], n: usize) -> u32
         × (r ≡ P.sameRows n (now (rows .entry)) (now (rows .exit)))
         ⌝ }
 {
-    let old = *rows;
+    let mut next = [0u32; Graph::MAX];
     let mut still = 0u32;
     let mut i = n;
     while i > 0 {
         i -= 1;
-        let row = old[i];
-        let more = row_pass(&old, row, still);
+        let row = rows[i];
+        let more = row_pass(rows, row, still);
         still = kept(still, i, more == row);
-        if more != row {
-            rows[i] = more;
-        }
+        next[i] = more;
+    }
+    if still != sets::below32(n) {
+        *rows = next;
     }
     still
 }
@@ -185,18 +187,16 @@ fn exchange(rows: &mut [u32; Graph::MAX], n: usize, width: usize, half: u32)
     }
 }
 
-// The rows with every edge turned round: row j has the goals that are before goal j + 1.
-pub fn transposed(rows: &[u32; Graph::MAX], n: usize) -> [u32; Graph::MAX]
+// Turns every edge of the rows round: row j has the goals that are before goal j + 1.
+pub fn transpose(rows: &mut [u32; Graph::MAX], n: usize)
     requires { ⌜ (n ≤ S.goalLimit) × G.Within S.goalLimit n (now rows) ⌝ }
-    ensures { λ r. ⌜ r ≡ G.transposed S.goalLimit n (now (rows .entry)) ⌝ }
+    ensures { λ _. ⌜ now (rows .exit) ≡ G.transposed S.goalLimit n (now (rows .entry)) ⌝ }
 {
-    let mut turned = *rows;
-    exchange(&mut turned, n, 16, 0x0000_ffff);
-    exchange(&mut turned, n, 8, 0x00ff_00ff);
-    exchange(&mut turned, n, 4, 0x0f0f_0f0f);
-    exchange(&mut turned, n, 2, 0x3333_3333);
-    exchange(&mut turned, n, 1, 0x5555_5555);
-    turned
+    exchange(rows, n, 16, 0x0000_ffff);
+    exchange(rows, n, 8, 0x00ff_00ff);
+    exchange(rows, n, 4, 0x0f0f_0f0f);
+    exchange(rows, n, 2, 0x3333_3333);
+    exchange(rows, n, 1, 0x5555_5555);
 }
 
 // Each goal of `front` is before each goal of `later`, beside what the rows have. Only the rows of `front` are touched, and none if there is nothing to put.

@@ -60,8 +60,8 @@ subset32-requires c κs = search needs
 empty-requires : tie.Need-empty-requires
 empty-requires c κs = search needs
 
-transposed-requires : tie.Need-transposed-requires
-transposed-requires c κs = (search needs, text-within (c .before .before .before .before .before .before .before .before .before .before .before .before .before .before .before .before .args .n) (c .before .before .before .before .before .before .before .before .before .before .before .before .before .before .before .before .args .text .now) (omega (arith, c .before .before .before .before .before .before .before .before .before .before .before .before .before .before .if1 .left)) (c .before .before .before .before .before .before .before .before .before .before .before .before .before .if2 .left) _ _ (c .before .before .before .before .before .before .before .before .before .before .before .parse .ensures) _ (c .before .before .before .before .before .before .before .before .before .part2 .given .1) (c .before .before .before .before .before .before .before .before .before .before .before .before .before .before .before .before .pre) _ (c .before .before .before .before .before .before .before .fault-of .ensures) (c .before .before .before .before .before .enum-told .given .1) (search needs))
+transpose-requires : tie.Need-transpose-requires
+transpose-requires c κs = (search needs, text-within (c .before .before .before .before .before .before .before .before .before .before .before .before .before .before .before .before .args .n) (c .before .before .before .before .before .before .before .before .before .before .before .before .before .before .before .before .args .text .now) (omega (arith, c .before .before .before .before .before .before .before .before .before .before .before .before .before .before .if1 .left)) (c .before .before .before .before .before .before .before .before .before .before .before .before .before .if2 .left) _ _ (c .before .before .before .before .before .before .before .before .before .before .before .parse .ensures) _ (c .before .before .before .before .before .before .before .before .before .part2 .given .1) (c .before .before .before .before .before .before .before .before .before .before .before .before .before .before .before .before .pre) _ (c .before .before .before .before .before .before .before .fault-of .ensures) (c .before .before .before .before .before .enum-told .given .1) (search needs))
 
 refused-requires-5 : tie.Need-refused-requires-5
 refused-requires-5 c κs = search needs
@@ -75,7 +75,7 @@ returns-4 c = c .refused4 .ensures ∙ ap (λ z. textAnswer (c .before .before .
 returns-5 : tie.Need-returns-5
 returns-5 c =
     rw (c .before .before .empty .ensures)
-    (text-done (c .before .before .before .before .before .before .before .before .before .before .before .before .before .before .before .before .before .args .n) (c .before .before .before .before .before .before .before .before .before .before .before .before .before .before .before .before .before .args .text .now) (omega (arith, c .before .before .before .before .before .before .before .before .before .before .before .before .before .before .before .if1 .left)) (c .before .before .before .before .before .before .before .before .before .before .before .before .before .before .if2 .left) _ _ (c .before .before .before .before .before .before .before .before .before .before .before .before .parse .ensures) _ (c .before .before .before .before .before .before .before .before .before .before .part2 .given .1) (c .before .before .before .before .before .before .before .before .before .before .before .before .before .before .before .before .before .pre) _ (c .before .before .before .before .before .before .before .before .fault-of .ensures) (c .before .before .before .before .before .before .enum-told .given .1) (search needs) (ap (λ z. subset z (c .before .before .before .before .before .before .before .before .before .before .part2 .given .0 .0 .set)) (sym (c .before .before .before .before .before .below32 .ensures)) ∙ sym (c .before .before .before .before .subset32 .ensures) ∙ c .before .before .before .if3 .taken) _ (c .transposed .ensures))
+    (text-done (c .before .before .before .before .before .before .before .before .before .before .before .before .before .before .before .before .before .args .n) (c .before .before .before .before .before .before .before .before .before .before .before .before .before .before .before .before .before .args .text .now) (omega (arith, c .before .before .before .before .before .before .before .before .before .before .before .before .before .before .before .if1 .left)) (c .before .before .before .before .before .before .before .before .before .before .before .before .before .before .if2 .left) _ _ (c .before .before .before .before .before .before .before .before .before .before .before .before .parse .ensures) _ (c .before .before .before .before .before .before .before .before .before .before .part2 .given .1) (c .before .before .before .before .before .before .before .before .before .before .before .before .before .before .before .before .before .pre) _ (c .before .before .before .before .before .before .before .before .fault-of .ensures) (c .before .before .before .before .before .before .enum-told .given .1) (search needs) (ap (λ z. subset z (c .before .before .before .before .before .before .before .before .before .before .part2 .given .0 .0 .set)) (sym (c .before .before .before .before .before .below32 .ensures)) ∙ sym (c .before .before .before .before .subset32 .ensures) ∙ c .before .before .before .if3 .taken) _ (c .transpose .ensures))
 
 returns-6 : tie.Need-returns-6
 returns-6 c = c .refused5 .ensures ∙ ap (λ z. textAnswer (c .before .before .before .before .before .before .before .before .before .before .before .before .before .before .before .args .n) z) (text-lacks (c .before .before .before .before .before .before .before .before .before .before .before .before .before .before .before .args .n) (c .before .before .before .before .before .before .before .before .before .before .before .before .before .before .before .args .text .now) (omega (arith, c .before .before .before .before .before .before .before .before .before .before .before .before .before .if1 .left)) (c .before .before .before .before .before .before .before .before .before .before .before .before .if2 .left) _ _ (c .before .before .before .before .before .before .before .before .before .before .parse .ensures) _ (c .before .before .before .before .before .before .before .before .part2 .given .1) (c .before .before .before .before .before .before .before .before .before .before .before .before .before .before .before .pre) _ (c .before .before .before .before .before .before .fault-of .ensures) (c .before .before .before .before .enum-told .given .1) (ap (λ z. subset z (c .before .before .before .before .before .before .before .before .part2 .given .0 .0 .set)) (sym (c .before .before .before .below32 .ensures)) ∙ sym (c .before .before .subset32 .ensures) ∙ c .before .if3 .left))
@@ -99,7 +99,7 @@ read-text-spec =
     below32-requires
     subset32-requires
     empty-requires
-    transposed-requires
+    transpose-requires
     refused-requires-5
     returns-3
     returns-4

@@ -18,32 +18,36 @@ use borrow.Author.Needs.{needs}
 use Rattle.form.proofs.put_rows.Statement.{statement}
 use Rattle.form.proofs.put_rows.Tie as tie
 
+-- where the function starts
+abbrev start : tie.After-below32 → tie.Start
+start c = c .before .before .before .before .before .before .before .before .before
+
 -- the search found nothing
-none-first : (c : tie.After-below32) → firstN (ahead (c .before .before .before .before .before .before .before .args .rows .now)) (c .before .before .before .before .before .before .before .args .n) ≡ none
+none-first : (c : tie.After-below32) → firstN (ahead (start c .args .rows .now)) (start c .args .n) ≡ none
 none-first c = sym (c .before .before .before .first-n .ensures) ∙ ap found (c .before .enum-told .given .1)
 
 -- what the writer of the form asks, and what it writes
 asks : (c : tie.After-below32) →
-    Ordered (c .before .before .before .before .before .before .before .args .rows .now) (c .before .before .before .before .before .transposed .result) (c .below32 .result)
-    × (0 + length (formText 32 false (c .before .before .before .before .before .before .before .args .rows .now) (c .below32 .result)) < 2 ^ 63)
+    Ordered (start c .args .rows .now) (c .before .before .before .before .before .transpose .last .0) (c .below32 .result)
+    × (0 + length (formText 32 false (start c .args .rows .now) (c .below32 .result)) < 2 ^ 63)
 asks c =
-    let s = c .before .before .before .before .before .before .before in (
-      ordered _ _ _ _ (s .pre .0) (s .pre .1) (s .pre .2) (none-first c) (c .before .before .before .before .before .transposed .ensures) (c .below32 .ensures),
-      room _ _ _ _ (s .pre .0) (s .pre .1) (s .pre .2) (none-first c) (c .before .before .before .before .before .transposed .ensures) (c .below32 .ensures),
+    let s = start c in (
+      ordered _ _ _ _ (s .pre .0) (s .pre .1) (s .pre .2) (none-first c) (c .before .before .before .before .before .transpose .ensures) (c .below32 .ensures),
+      room _ _ _ _ (s .pre .0) (s .pre .1) (s .pre .2) (none-first c) (c .before .before .before .before .before .transpose .ensures) (c .below32 .ensures),
     )
 
-the-text : (c : tie.After-below32) → formText 32 false (c .before .before .before .before .before .before .before .args .rows .now) (c .below32 .result) ≡ text (formAny (ahead (c .before .before .before .before .before .before .before .args .rows .now)) (c .before .before .before .before .before .before .before .args .n))
+the-text : (c : tie.After-below32) → formText 32 false (start c .args .rows .now) (c .below32 .result) ≡ text (formAny (ahead (start c .args .rows .now)) (start c .args .n))
 the-text c =
-    let s = c .before .before .before .before .before .before .before in
-    text-is _ _ _ _ (s .pre .0) (s .pre .1) (s .pre .2) (none-first c) (c .before .before .before .before .before .transposed .ensures) (c .below32 .ensures)
+    let s = start c in
+    text-is _ _ _ _ (s .pre .0) (s .pre .1) (s .pre .2) (none-first c) (c .before .before .before .before .before .transpose .ensures) (c .below32 .ensures)
 
-fits : (c : tie.After-below32) → length (text (formAny (ahead (c .before .before .before .before .before .before .before .args .rows .now)) (c .before .before .before .before .before .before .before .args .n))) ≤ length (c .before .before .before .before .before .before .before .args .space .now)
+fits : (c : tie.After-below32) → length (text (formAny (ahead (start c .args .rows .now)) (start c .args .n))) ≤ length (start c .args .space .now)
 fits c =
-    let s = c .before .before .before .before .before .before .before in
-    omega (arith, text-short _ _ _ _ (s .pre .0) (s .pre .1) (s .pre .2) (none-first c) (c .before .before .before .before .before .transposed .ensures) (c .below32 .ensures), s .pre .4)
+    let s = start c in
+    omega (arith, text-short _ _ _ _ (s .pre .0) (s .pre .1) (s .pre .2) (none-first c) (c .before .before .before .before .before .transpose .ensures) (c .below32 .ensures), s .pre .4)
 
-transposed-requires : tie.Need-transposed-requires
-transposed-requires c κs = search needs
+transpose-requires : tie.Need-transpose-requires
+transpose-requires c κs = search needs
 
 first-n-requires : tie.Need-first-n-requires
 first-n-requires c κs = search needs
@@ -81,7 +85,7 @@ pub put-rows-spec : {M : Type 1} → statement M
 put-rows-spec =
     tie.close
     (tie.spec
-    transposed-requires
+    transpose-requires
     first-n-requires
     enum-known-found
     enum-told

@@ -50,6 +50,14 @@ const READ: Operation = Operation {
     proved: |i| unsafe { c::lfj_read(i.record.as_ptr(), i.record.len()) },
     hand: |i| word(compare::read(&i.record)),
 };
+/// The order as a whole, as the paper has it: both sides make it, and give one row of it.
+const ORDER: Operation = Operation {
+    name: "order",
+    proved: |i| unsafe { c::lfj_after(i.record.as_ptr(), i.record.len(), i.goal) },
+    hand: |i| word(compare::order(&i.record).map(|order| order.rows[i.goal as usize - 1])),
+};
+/// The same call of the library for its one row alone: the hand-written side leaves out the
+/// goals left of it.
 const AFTER: Operation = Operation {
     name: "after",
     proved: |i| unsafe { c::lfj_after(i.record.as_ptr(), i.record.len(), i.goal) },
@@ -95,7 +103,7 @@ const CHECK: Operation = Operation {
     },
 };
 
-const ALL: [&Operation; 7] = [&READ, &AFTER, &FORM, &LENGTH, &MEL, &TEXT, &CHECK];
+const ALL: [&Operation; 7] = [&READ, &ORDER, &FORM, &LENGTH, &MEL, &TEXT, &CHECK];
 
 /// Nanoseconds a call, of `calls` calls.
 #[inline(never)]
@@ -166,23 +174,21 @@ fn growing_ground(goal: usize) -> u64 {
 }
 
 fn lines() -> Vec<Line> {
-    let mut lines = Vec::new();
-    for operation in ALL {
-        for goals in [3, 12, 32] {
+    let typical = |operation: &'static Operation| {
+        [3, 12, 32].into_iter().flat_map(move |goals| {
             // Three goals always have a form; the least clause without one has four.
-            let without = goals.max(4);
-            for (parts, clause) in
-                [(nested(goals), "with a form"), (Parts::without_form(without), "without a form")]
-            {
-                lines.push(Line {
+            let without = Parts::without_form(goals.max(4));
+            [(nested(goals), "with a form"), (without, "without a form")].map(|(parts, clause)| {
+                Line {
                     operation,
                     goals: parts.goals.len(),
                     clause: clause.to_string(),
                     input: input(&parts, None, 1 << 16),
-                });
-            }
-        }
-    }
+                }
+            })
+        })
+    };
+    let mut lines: Vec<Line> = ALL.into_iter().flat_map(typical).collect();
     let mut more = |operation, clause: &str, input: Input| {
         let goals = input.record[5] as usize;
         lines.push(Line { operation, goals, clause: clause.to_string(), input });
@@ -198,18 +204,18 @@ fn lines() -> Vec<Line> {
         more(operation, "version 2, ground sets grow", input(&growing(nested(32)), None, 1 << 16));
     }
     let without = Parts::without_form(32).knowing(&[]);
-    for operation in [&READ, &AFTER, &FORM, &MEL] {
+    for operation in [&READ, &ORDER, &FORM, &MEL] {
         more(operation, "version 2, without a form", input(&without, None, 1 << 16));
     }
     let longest = Parts::longest_record();
     let wide = Parts::longest_wide_record();
-    for operation in [&READ, &AFTER, &TEXT] {
+    for operation in [&READ, &ORDER, &TEXT] {
         more(operation, "the longest record of version 1", input(&longest, None, 0));
         more(operation, "the longest record of version 2", input(&wide, None, 0));
     }
     let chain = |goal: u32| 3 << goal;
     let shared = Parts::over(64, &(0..32).map(chain).collect::<Vec<u64>>());
-    for operation in [&AFTER, &FORM] {
+    for operation in [&ORDER, &FORM] {
         let wide = shared.clone().knowing(&[]);
         more(operation, "version 2, a chain, no facts listed", input(&wide, None, 160));
     }
@@ -217,7 +223,7 @@ fn lines() -> Vec<Line> {
     let half = |goal| if goal < 16 { chain(goal) } else { 1 << 63 };
     let mut beside = Parts::over(64, &(0..32).map(half).collect::<Vec<u64>>());
     beside.ground = 1 << 63;
-    for operation in [&AFTER, &FORM, &LENGTH, &CHECK] {
+    for operation in [&ORDER, &FORM, &LENGTH, &CHECK] {
         more(operation, "a chain, no facts listed", input(&shared, None, 160));
         more(operation, "a chain of 16 beside 16 goals", input(&beside, None, 160));
     }
@@ -233,6 +239,7 @@ fn lines() -> Vec<Line> {
     let deep = [vec![b'('; 32], b"1".to_vec(), vec![b')'; 32]].concat();
     let one = Parts::with_waits(1, &[]).expect("no pairs");
     more(&CHECK, "32 open parentheses", input(&one, Some(&deep), 0));
+    lines.extend(typical(&AFTER));
     lines
 }
 
