@@ -32,6 +32,7 @@ use Rattle.record.proofs.Refusals.{refusal-number, refusal-limit}
 use Rattle.order.specs.Order.{before}
 use Rattle.expression.specs.Expr.{Expr}
 use Rattle.expression.specs.Expr as E
+use Rattle.expression.specs.Text.{formLimit}
 use Rattle.expression.specs.Search.{Four}
 use Rattle.expression_grammar.specs.TextRules.{readText}
 use Rattle.expression_grammar.specs.Check.{Verdict, same, differs, firstDiffer, verdict, checked}
@@ -108,23 +109,23 @@ module _ (b : List ℕ) (bytes : Bytes b) where
           let d = first-difference n (before b) (E.before e) (p .0) (p .1) h in
           (omega (arith, d .in-i .1, w .goals-to), omega (arith, d .in-j .1, w .goals-to))
 
-  -- ---- the form: a length up to 146
+  -- ---- the form: a length up to the longest
   form-places : Fit (λ t. Unit {0}) (F.formText b)
   unfolding F.formText
   form-places = all-read (λ k p. Small p) (λ t. Unit {0}) b _ limit (λ e. thirteen-fits (λ t. Unit {0}) (F.firstFour b) _ tt)
 
-  text-of-form : Fit (λ t. length t ≤ 146) (F.formText b)
+  text-of-form : Fit (λ t. length t ≤ formLimit) (F.formText b)
   text-of-form = go (F.formText b) refl
     where
-      go : (o : Outcome (List ℕ)) → F.formText b ≡ o → Fit (λ t. length t ≤ 146) o
+      go : (o : Outcome (List ℕ)) → F.formText b ≡ o → Fit (λ t. length t ≤ formLimit) o
       go (refused k p) e = all-refused (λ k p. Small p) (λ t. Unit {0}) form-places e
       go (accepted t) e = form-short b t e
 
-  form-fits : (buf : List ℕ) → Fit (λ n. n ≤ 146) (F.formAnswer b buf)
-  form-fits buf = all-size (λ k p. Small p) (λ n. n ≤ 146) (λ t. length t ≤ 146) (F.formText b) buf text-of-form (λ t h. (omega arith, h))
+  form-fits : (buf : List ℕ) → Fit (λ n. n ≤ formLimit) (F.formAnswer b buf)
+  form-fits buf = all-size (λ k p. Small p) (λ n. n ≤ formLimit) (λ t. length t ≤ formLimit) (F.formText b) buf text-of-form (λ t h. (omega arith, h))
 
-  length-fits : Fit (λ n. n ≤ 146) (F.formLength b)
-  length-fits = all-next (λ k p. Small p) (λ n. n ≤ 146) (λ t. length t ≤ 146) (F.formText b) _ text-of-form (λ t h. h)
+  length-fits : Fit (λ n. n ≤ formLimit) (F.formLength b)
+  length-fits = all-next (λ k p. Small p) (λ n. n ≤ formLimit) (λ t. length t ≤ formLimit) (F.formText b) _ text-of-form (λ t h. h)
 
   -- 13's four are goals
   thirteen-goals : (q : Four) → F.shown b ≡ some q → (q .a < 2 ^ 6) × (q .b < 2 ^ 6) × (q .c < 2 ^ 6) × (q .d < 2 ^ 6)
