@@ -19,7 +19,7 @@ use Rattle.sets.proofs.Membership.{has-empty, has-union, has-without, has-singl
 use Rattle.sets.proofs.Members.{first-in, other, fewer, no-more}
 use Rattle.sets.proofs.Builder.{single-lt, members-lt, union-lt, has-setOf, has-setOf-in, setOf-ext, setOf-cong}
 use Rattle.logic.specs.Table.{table}
-use Rattle.logic.proofs.Table.{table-ext}
+use Rattle.logic.proofs.Table.{table-ext, table-at}
 use Rattle.graph.specs.Graph.{ahead, goalsOf, Within}
 use Rattle.graph.specs.Passes.{pass, gather, Still, sameRows}
 use Rattle.graph.proofs.Rows.{goals-has, rows-length, row-past, row-lt}
@@ -210,17 +210,6 @@ kept-all n f old new i still z r e =
     setOf-ext n still (λ k. eqb (getD new k 0) (getD old k 0)) (r .low)
     (λ k l. r .done k (omega arith) l ∙ ap (λ (m : ℕ). eqb m (getD old k 0)) (sym (e k l)))
 
--- where all are kept, the array has the new elements already
-pub kept-whole : (w n : ℕ) (f : ℕ → ℕ) (old : List ℕ) (i still : ℕ) → Within w n old → i ≡ 0 → Kept n f old i still → still ≡ below n
-    → ((k : ℕ) → k < n → getD old k 0 ≡ f k) × (old ≡ table w n f)
-kept-whole w n f old i still inside z r e = (at, table-ext w n f old (ap length inside ∙ rows-length w n (ahead old)) (λ k a b. at k b) past)
-  where
-    at : (k : ℕ) → k < n → getD old k 0 ≡ f k
-    at k b = sym (eqb-true (f k) (getD old k 0) (sym (r .done k (omega arith) b) ∙ ap (λ (m : ℕ). has m k) e ∙ has-below n k ∙ lt-ltb k n b))
-
-    past : (k : ℕ) → k < w → n ≤ k → getD old k 0 ≡ 0
-    past k a b = ap (λ (l : List ℕ). getD l k 0) inside ∙ row-past w n (ahead old) k b
-
 -- ---- a row of a pass
 some-cut : (n w : ℕ) (f : ℕ → Bool) → n ≤ w → ((k : ℕ) → n ≤ k → f k ≡ false) → someBelow w f ≡ someBelow n f
 some-cut n w f h none =
@@ -287,3 +276,11 @@ module _ (n : ℕ) (old new : List ℕ) where
       sym
       (setOf-ext n (below n) (λ i. eqb (getD new i 0) (getD old i 0)) (omega (arith, pow-pos n))
       (λ i l. has-below n i ∙ lt-ltb i n l ∙ sym (eq-eqb (getD new i 0) (getD old i 0) (e i l))))
+
+  -- rows of n goals in which none differs are the same array
+  pub same-whole : (w : ℕ) (f : ℕ → ℕ) → Within w n old → new ≡ table w n f → sameRows n old new ≡ below n → old ≡ new
+  same-whole w f inside t e =
+      table-ext w n f old (ap length inside ∙ rows-length w n (ahead old))
+      (λ i a l. sym (same-at e i l) ∙ ap (λ (r : List ℕ). getD r i 0) t ∙ table-at w n f i a l)
+      (λ i a l. ap (λ (r : List ℕ). getD r i 0) inside ∙ row-past w n (ahead old) i l)
+      ∙ sym t

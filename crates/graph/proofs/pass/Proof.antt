@@ -1,13 +1,12 @@
 use borrow.Author.Needs.{needs}
 use denote.Ref.{now}
 use mathlib.Core.Path.{_≡_, sym, ap, _∙_, subst}
-use mathlib.Core.Logic.{dite}
 use mathlib.Core.List.{List}
 use Prim.Native.Nat.{ℕ, suc, _-_, _≤_, _<_}
 use native.Mathlib.Omega.{arith}
 use Rattle.graph.specs.Graph.{ahead, goalsOf, rowsOf}
-use Rattle.graph.specs.Passes.{pass}
-use Rattle.graph.proofs.Gathering.{pass-row, Filled, filled-none, filled-more, filled-all, Kept, kept-none, kept-more, kept-all, kept-whole, kept-still}
+use Rattle.graph.specs.Passes.{pass, sameRows}
+use Rattle.graph.proofs.Gathering.{pass-row, Filled, filled-none, filled-more, filled-all, Kept, kept-none, kept-more, kept-all, kept-still, same-whole}
 use Rattle.graph.proofs.pass.Statement.{statement}
 use Rattle.graph.proofs.pass.Tie as tie
 
@@ -68,28 +67,36 @@ loop-again c =
 below32-requires : tie.Need-below32-requires Inv-loop μ-loop
 below32-requires c κs = search needs
 
+-- at the loop's end: the rows apart are those of the pass, and the set is that of the rows that stay
+module _ (c : tie.After-loop Inv-loop μ-loop) where
+  abbrev n : ℕ
+  n = c .before .before .args .n
+
+  abbrev rows : List ℕ
+  rows = now (c .before .before .args .rows)
+
+  end : c .before .loop .i ≡ 0
+  end = omega (arith, c .loop-test .left)
+
+  new : c .before .loop .next ≡ rowsOf 32 n (pass n (ahead rows))
+  unfolding rowsOf
+  new = filled-all 32 n (row n rows) (c .before .loop .i) (c .before .loop .next) end (c .before .loop .inv .1)
+
+  stay : c .before .loop .still ≡ sameRows n rows (c .before .loop .next)
+  stay =
+      let l = c .before .loop in
+      kept-all n (row n rows) rows (l .next) (l .i) (l .still) end (l .inv .2) (λ k b. l .inv .1 .done k (omega (arith, end)) b)
+
 returns : tie.Need-returns Inv-loop μ-loop
-unfolding rowsOf
-returns c =
-    let s = c .before .before .before .before in
-    let l = c .before .before .before .loop in
-    let n = s .args .n in
-    let rows = now (s .args .rows) in
-    let end : l .i ≡ 0 = omega (arith, c .before .before .loop-test .left) in (
-      filled-all 32 n (row n rows) (l .i) (l .next) end (l .inv .1),
-      kept-all n (row n rows) rows (l .next) (l .i) (l .still) end (l .inv .2) (λ k b. l .inv .1 .done k (omega arith) b),
-    )
+returns c = (new (c .before .before), stay (c .before .before))
 
 returns-2 : tie.Need-returns-2 Inv-loop μ-loop
 unfolding rowsOf
 returns-2 c =
-    let s = c .before .before .before .before in
-    let l = c .before .before .before .loop in
-    let n = s .args .n in
-    let rows = now (s .args .rows) in
-    let end : l .i ≡ 0 = omega (arith, c .before .before .loop-test .left) in
-    let was = kept-whole 32 n (row n rows) rows (l .i) (l .still) (s .pre .1) end (l .inv .2) (c .if1 .left ∙ c .before .below32 .ensures) in
-    (was .1, kept-all n (row n rows) rows rows (l .i) (l .still) end (l .inv .2) (was .0))
+    let a = c .before .before in
+    let none = sym (stay a) ∙ c .if1 .left ∙ c .before .below32 .ensures in
+    let same = same-whole (n a) (rows a) (a .before .loop .next) 32 (row (n a) (rows a)) (a .before .before .pre .1) (new a) none in
+    (same ∙ new a, stay a ∙ ap (sameRows (n a) (rows a)) (sym same))
 
 pub pass-spec : {M : Type 1} → statement M
 pass-spec =
