@@ -2,7 +2,7 @@
 --     refuses      each operation refuses with its own numbers and those of reading
 --     numbers      the number is 0 exactly if the call is accepted; 13 exactly with its four goals
 --     one-answer   one answer has an outcome
-use mathlib.Core.Path.{_≡_, refl, sym, ap, ap₂, _∙_, subst}
+use mathlib.Core.Path.{_≡_, refl, sym, ap, ap₂, _∙_}
 use mathlib.Core.Bool.{_&&_}
 use mathlib.Core.List.{List}
 use mathlib.Core.Logic.{_⊎_, inl, inr, ⊎-elim, _↔_}
@@ -20,16 +20,14 @@ use Rattle.record_rules.proofs.Outcomes.{told-apart, one-value, one-refusal, nu
 use Rattle.record_fields.specs.Fields.{goalCount}
 use Rattle.record.proofs.WellFormed.{fine-well-formed}
 use Rattle.record.proofs.Refusals.{refusal-number}
-use Rattle.order.specs.Order.{before}
 use Rattle.expression.specs.Expr.{Expr}
-use Rattle.expression.specs.Expr as E
 use Rattle.expression.specs.Form.{form}
-use Rattle.expression.specs.Search.{Four, firstN}
+use Rattle.expression.specs.Search.{Four}
 use Rattle.expression.specs.Text.{text}
 use Rattle.expression_grammar.specs.Reader as R
 use Rattle.expression_grammar.specs.Numbers.{misuse}
 use Rattle.expression_grammar.specs.TextRules.{expressionLimit, openLimit, numbered, decided, readText}
-use Rattle.expression_grammar.specs.Check.{same, firstDiffer, verdict, checked}
+use Rattle.expression_grammar.specs.Check.{same, verdict, checked}
 use Rattle.order_compare.specs.declared.Pair.{Pair}
 use Rattle.order_compare.specs.declared.Verdict as Verdicts
 use Rattle.order_compare.specs.declared.Verdict.the-variants.{Same, Differs}
@@ -40,13 +38,12 @@ use Rattle.form.specs.Form as F
 use Rattle.form.specs.declared.FormAnswer as Forms
 use Rattle.form.specs.declared.FormAnswer.the-variants as W
 use Rattle.form.proofs.Outcomes.{form-refused, shown-refused, shown-fine}
-use Rattle.form.proofs.Theorems.{demand, no-form, found-thirteen}
+use Rattle.form.proofs.Theorems.{demand, found-thirteen}
 use Rattle.mel.specs.Annotation as M
 use Rattle.mel.specs.declared.MelAnswer as Mels
 use Rattle.mel.specs.declared.MelAnswer.the-variants as T
 use Rattle.annotator.specs.declared.ReadAnswer.{ReadAnswer}
 use Rattle.annotator.specs.declared.ReadAnswer.the-variants.{Accepted as Count, Refused}
-use Rattle.annotator.specs.declared.Span.{Span}
 use Rattle.annotator.specs.declared.TextAnswer.{TextAnswer}
 use Rattle.annotator.specs.declared.TextAnswer.the-variants.{At, NoText}
 use Rattle.annotator.specs.declared.CheckAnswer.{CheckAnswer}

@@ -1,6 +1,5 @@
 -- Laws of decimal numbers: one digit, two, and a last digit after the others.
 use mathlib.Core.Path.{_≡_, refl, sym, ap, _∙_}
-use mathlib.Core.Bool.{Bool, true, false, cond}
 use mathlib.Core.List.{List, [], _∷_, _++_}
 use Prim.Native.Nat.{ℕ, zero, suc, _+_, _/_, _%_, _^_, _≤_, _<_}
 use native.Mathlib.Nat.{mod-eq-of-lt, le-refl, pow-suc}
@@ -43,11 +42,6 @@ last-digit (suc n) h =
 
 pub two-digits : (x : ℕ) → 10 ≤ x → x < 100 → ((48 + x / 10) ∷ []) ++ ((48 + x % 10) ∷ []) ≡ decimal x
 two-digits x h l = ap (λ (f : List ℕ). f ++ ((48 + x % 10) ∷ [])) (one-digit (x / 10) (omega arith)) ∙ last-digit x h
-
--- it is not empty
-pub decimal-some : (n : ℕ) → 1 ≤ length (decimal n)
-decimal-some n =
-    dite (decLt n 10) (λ t. omega (arith, ap length (one-digit n t))) (λ t. omega (arith, simp length-append at (ap length (last-digit n (omega arith)))))
 
 -- no longer than the number of its digits allows
 pub decimal-length : (d n : ℕ) → n < 10 ^ suc d → length (decimal n) ≤ suc d

@@ -8,7 +8,7 @@ use native.Mathlib.Omega.{arith}
 use lib.ListN.{length, set, take, drop, length-append}
 use lib.Dec.{ltb}
 use borrow.Author.Tests.{lt-ltb, le-ltb}
-use lib.Seq.{sets, sets-eq, length-sets, set-set, set-comm, set-out, take-at}
+use lib.Seq.{sets, sets-eq, length-sets, set-set, set-comm, set-out}
 use Rattle.buffer.specs.Text.{Wrote, only, joinFrom, nonEmpty, someTexts}
 
 -- stores of t, and then of u
@@ -111,12 +111,6 @@ join-step more sep t ts = refl
 pub join-none : (more : Bool) (sep : ℕ) → joinFrom more sep [] ≡ []
 unfolding joinFrom
 join-none more sep = refl
-
--- what was written at the start of a buffer with room stands there
-pub read-back : {t : List ℕ} {e : ℕ} {l o : List ℕ} → Wrote t 0 l e o → length t ≤ length l → take e o ≡ t
-read-back {t} {e} {l} {o} w h =
-    let n : e ≡ length t = omega (arith, w .place) in
-    rw (stands w (omega arith), n) (take-at t (drop (0 + length t) l) (length t) refl)
 
 pub only-length : (b : Bool) (x : ℕ) → length (only b x) ≤ 1
 unfolding only

@@ -2,7 +2,7 @@
 use graph::Graph;
 use record_fields::HEADER;
 ghost use mathlib.Core.Path.{_≡_};
-ghost use Prim.Native.Nat.{_+_, _*_, _<_, _≤_};
+ghost use Prim.Native.Nat.{_+_, _*_, _<_};
 ghost use lib.ListN.{getD, replicate};
 ghost use Rattle.sets.specs.Sets.{goalLimit, variableLimit};
 ghost use Rattle.record_fields.specs.Fields as F;

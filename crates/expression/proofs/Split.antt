@@ -5,10 +5,9 @@ use mathlib.Core.Bool.{Bool, true, false, true≢false, false≢true}
 use mathlib.Core.Logic.{_⊎_, inl, inr, ⊎-elim, _↔_}
 use Prim.Native.Nat.{ℕ, _≤_}
 use native.Mathlib.Omega.{arith}
-use Rattle.logic.proofs.Bools.{is-false}
-use Rattle.expression.specs.Expr.{Expr, goal, join, Members, one, more, stands, NoJoin, HouseM, least, Order}
+use Rattle.expression.specs.Expr.{Expr, goal, join, Members, one, more, stands, NoJoin, HouseM, least}
 use Rattle.expression.specs.Split.{Component, Starts}
-use Rattle.expression.proofs.Fits.{In, InM, Fits, FitsM, stay-in, connected, first, first-in, firstM, firstM-in}
+use Rattle.expression.proofs.Fits.{In, InM, FitsM, stay-in, connected, first, first-in, firstM, firstM-in}
 use Rattle.expression.proofs.Least.{least-in, leastM-le}
 use Rattle.expression.proofs.Exists.{Form}
 use Rattle.expression.proofs.Unique.{Same, unique}
@@ -30,14 +29,6 @@ form-eq R e e′ f g s =
 abbrev pub Without : (ℕ → Type 0) → (ℕ → Type 0) → ℕ → Type 0
 Without P C i = P i × (C i → ⊥)
 
--- an order on a set is one on each part of it
-pub order-part : {R : ℕ → ℕ → Bool} {P S : ℕ → Type 0} → ((i : ℕ) → P i → S i) → Order R S → Order R P
-order-part h o =
-    record {
-      rising = λ i j p q t. o .rising i j (h i p) (h j q) t;
-      chained = λ i j k p q r t u. o .chained i j k (h i p) (h j q) (h k r) t u;
-    }
-
 -- one member
 pub form-one : {R : ℕ → ℕ → Bool} {k : Bool} {P : ℕ → Type 0} {e : Expr} → FormM R k P (one e) → Form R P e
 form-one f = record { covers = f .covers; fits = f .fits; house = f .house .0 }
@@ -51,13 +42,6 @@ form-members f = record { covers = f .covers; fits = f .fits; house = f .house }
 pub data Peeled (R : ℕ → ℕ → Bool) (k : Bool) (P C : ℕ → Type 0) : Members → Type 0 where
   final : {b : Expr} → NoJoin k b → Form R C b → ((i : ℕ) → P i → C i) → Peeled R k P C (one b)
   further : {b : Expr} {bs : Members} → NoJoin k b → Form R C b → FormM R k (Without P C) bs → (i : ℕ) × Without P C i → Peeled R k P C (more b bs)
-
--- where the order goes up, the smallest goal starts for both kinds
-pub starts-low : (R : ℕ → ℕ → Bool) (k : Bool) {P : ℕ → Type 0} (x : ℕ) → Order R P → P x → ((i : ℕ) → P i → x ≤ i) → Starts R k P x
-starts-low R k x o h low = (
-  (λ _. low),
-  (λ _ i p. is-false (R i x) (λ t. omega (arith, o .rising i x p h t, low i p))),
-)
 
 module _ (R : ℕ → ℕ → Bool) (k : Bool) {P C : ℕ → Type 0} {x : ℕ} (c : Component R k P x C) where
   -- a form that is no k join is connected
@@ -123,9 +107,6 @@ module _ (R : ℕ → ℕ → Bool) (k : Bool) {P C : ℕ → Type 0} {x : ℕ} 
       final (f .house .1) g all
   peel-at st (more b bs) f = further (f .house .1) (split-first st b bs f) (split-others st b bs f) (split-left st b bs f)
 
-  pub peel : Order R P → ((i : ℕ) → P i → x ≤ i) → (ms : Members) → FormM R k P ms → Peeled R k P C ms
-  peel o low ms f = peel-at (starts-low R k x o (c .inside x (c .start)) low) ms f
-
 -- The first question, whether a form is a group, is answered by the component of its smallest goal in the graph of what is in order.
 module _ (R : ℕ → ℕ → Bool) {P C : ℕ → Type 0} {x : ℕ} (c : Component R false P x C) (low : (i : ℕ) → P i → x ≤ i) where
   -- it is all: a goal or a sequence
@@ -154,9 +135,3 @@ pub is-sequence : {R : ℕ → ℕ → Bool} {P : ℕ → Type 0} (e : Expr) →
 is-sequence (goal g) f n i j p q d = absurd (d (f .covers i .1 p ∙ sym (f .covers j .1 q)))
 is-sequence (join true a ms) f n i j p q d = (a, ms, refl)
 is-sequence (join false a ms) f n i j p q d = absurd (false≢true n)
-
--- In every expression there is a goal that none comes before: a search for one in the goals of a form finds it.
-pub first-starts : (R : ℕ → ℕ → Bool) (e : Expr) → Fits R e → (i : ℕ) → In i e → R i (first e) ≡ false
-first-starts R (goal g) f i p = ap (λ z. R z g) p ∙ f
-first-starts R (join k e ms) f i (inl p) = first-starts R e (f .0) i p
-first-starts R (join k e ms) f i (inr p) = f .2 (first e) i (first-in e) p .back

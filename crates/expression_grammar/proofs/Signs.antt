@@ -1,6 +1,6 @@
 -- What a byte's sign tells of the byte, and the other way.
-use mathlib.Core.Path.{_≡_, refl, ap}
-use mathlib.Core.Bool.{Bool, true, false, _&&_}
+use mathlib.Core.Path.{_≡_, ap}
+use mathlib.Core.Bool.{true, _&&_}
 use Prim.Native.Nat.{ℕ, _+_, _<_}
 use native.Mathlib.Omega.{arith}
 use lib.Dec.{eqb, leb}
@@ -20,10 +20,6 @@ sign-digit v h =
       le-leb (48 + v) 57 (omega arith),
     )
     (ap digit (omega arith))
-
-pub sign-mark : (k : Bool) → sign (mark k) ≡ joiner k
-sign-mark true = refl
-sign-mark false = refl
 
 -- the byte is the sign's
 abbrev pub Is : Sign → ℕ → Type 0

@@ -1,7 +1,7 @@
 -- The loop that grows the part of a set that hangs together with a goal: `left` is what is not yet in it, `todo` what is in it and whose neighbours are
 -- not yet looked at; and the loop that finds the neighbours of a set.
 use mathlib.Core.Path.{_≡_, refl, sym, ap, _∙_, subst}
-use mathlib.Core.Bool.{Bool, true, false, not, _&&_, _||_, cond, or-assoc, true≢false, false≢true}
+use mathlib.Core.Bool.{Bool, true, false, not, _&&_, _||_, cond, or-assoc, false≢true}
 use mathlib.Core.List.{List}
 use mathlib.Core.Logic.{_⊎_, inl, inr, ⊎-elim}
 use Prim.Native.Nat.{ℕ, zero, suc, _+_, _-_, _^_, _<_}

@@ -1,5 +1,5 @@
 -- Laws of rows: what the rows of a relation have, and that nothing else has it.
-use mathlib.Core.Path.{_≡_, refl, sym, ap, _∙_, subst}
+use mathlib.Core.Path.{_≡_, sym, ap, _∙_, subst}
 use mathlib.Core.Bool.{Bool, true, false, false≢true}
 use mathlib.Core.List.{List}
 use mathlib.Core.Logic.{dite}
@@ -9,7 +9,7 @@ use native.Mathlib.Omega.{arith}
 use lib.ListN.{length, getD, replicate, length-replicate, getD-replicate}
 use lib.Pow.{pow-pos}
 use Rattle.sets.specs.Sets.{has}
-use Rattle.sets.proofs.Membership.{has-above, has-empty, member-below}
+use Rattle.sets.proofs.Membership.{has-empty, member-below}
 use Rattle.sets.proofs.Builder.{setOf-lt, has-setOf-in, setOf-ext}
 use Rattle.logic.proofs.Table.{table-length, table-at, table-past, table-ext}
 use Rattle.graph.specs.Graph.{hasGoal, ahead, goalsOf, rowsOf, Within, transposed}
@@ -53,12 +53,6 @@ row-lt w n R i h =
     (λ l. subst (λ (m : ℕ). m < 2 ^ n) (sym (row-at w n R i (omega arith) l)) (goals-lt n (R (suc i))))
     (λ l. subst (λ (m : ℕ). m < 2 ^ n) (sym (row-past w n R i (omega arith))) (pow-pos n))
 
--- past the goals the rows have nothing
-pub rows-none : (w n : ℕ) (R : ℕ → ℕ → Bool) (i j : ℕ) → n ≤ w → n < j → ahead (rowsOf w n R) i j ≡ false
-rows-none w n R zero j h b = refl
-rows-none w n R (suc i) zero h b = refl
-rows-none w n R (suc i) (suc j) h b = has-above n (getD (rowsOf w n R) i 0) j (row-lt w n R i h) (omega arith)
-
 -- what a row has, by places
 pub row-out : (w n : ℕ) (R : ℕ → ℕ → Bool) (i j : ℕ) → n ≤ w → has (getD (rowsOf w n R) i 0) j ≡ true → (i < n) × (j < n) × (R (suc i) (suc j) ≡ true)
 row-out w n R i j h e =
@@ -94,10 +88,6 @@ rows-zero w R =
     (λ i b k. getD-replicate {A = ℕ} w i 0 0 b)
 
 -- ---- rows with every edge turned round
-pub transposed-length : (w n : ℕ) (rows : List ℕ) → length (transposed w n rows) ≡ w
-unfolding transposed
-transposed-length w n rows = rows-length w n (λ j i. ahead rows i j)
-
 -- on the goals they say the same the other way round
 pub transposed-turned : (w n : ℕ) (R : ℕ → ℕ → Bool) (rows : List ℕ) → n ≤ w → rows ≡ rowsOf w n (λ j i. R i j) → transposed w n rows ≡ rowsOf w n R
 unfolding transposed

@@ -12,8 +12,7 @@ use Rattle.graph.specs.declared.Graph.{Graph}
 use Rattle.graph.proofs.Rows.{row-at}
 use Rattle.record_fields.specs.Fields.{goalCount}
 use Rattle.record_rules.specs.declared.Refusal.{Refusal}
-use Rattle.record_rules.specs.declared.Reading.{Reading}
-use Rattle.record_rules.specs.declared.Reading.the-variants.{Fine, Refused as Unread}
+use Rattle.record_rules.specs.declared.Reading.the-variants.{Fine}
 use Rattle.record_rules.specs.Reading.{reading}
 use Rattle.record_rules.specs.Outcome.{Outcome, refused, accepted, values}
 use Rattle.record_rules.proofs.Must.{between-low, between-high}

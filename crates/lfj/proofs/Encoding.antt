@@ -8,7 +8,7 @@ use Rattle.record_rules.proofs.Outcomes.{All}
 use Rattle.expression.specs.Search.{Four}
 use Rattle.expression_grammar.specs.Check.{differs}
 use Rattle.annotator.specs.declared.Span.{Span}
-use Rattle.lfj.specs.Words.{refusalWord, word, goalsWord, formWord, melWord, textWord, checkWord}
+use Rattle.lfj.specs.Words.{refusalWord, word, formWord, melWord, textWord, checkWord}
 
 -- a refusal's word gives its number and its place back
 pub word-number : (k p : ℕ) → refusalWord k p / 2 ^ 56 ≡ k

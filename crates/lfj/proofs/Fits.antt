@@ -4,9 +4,9 @@
 use mathlib.Core.Path.{_≡_, refl, sym, ap, ap₂, _∙_, subst}
 use mathlib.Core.Bool.{Bool, true, false, _&&_, true≢false}
 use mathlib.Core.List.{List}
-use mathlib.Core.Logic.{inl, inr, _↔_}
+use mathlib.Core.Logic.{_↔_}
 use mathlib.Core.Option.{Option, none, some}
-use Prim.Native.Nat.{ℕ, _-_, _^_, _/_, _≤_, _<_}
+use Prim.Native.Nat.{ℕ, _-_, _^_, _≤_, _<_}
 use native.Mathlib.Nat.{lt-of-lt-of-le}
 use native.Mathlib.Omega.{arith}
 use lib.Dec.{leb}
@@ -21,11 +21,11 @@ use Rattle.record_rules.specs.declared.Refusal.{Refusal}
 use Rattle.record_rules.specs.declared.Reading.{Reading}
 use Rattle.record_rules.specs.declared.Reading.the-variants.{Fine, Refused as Unread}
 use Rattle.record_rules.specs.Reading.{reading}
-use Rattle.record_rules.specs.Outcome.{Outcome, refused, accepted, sizeIn, values, Accepted}
+use Rattle.record_rules.specs.Outcome.{Outcome, refused, accepted, values}
 use Rattle.record_rules.proofs.Must.{between-low, between-high, between-in}
 use Rattle.record_rules.proofs.Outcomes.{All, all-refused, all-accepted, all-read, all-only, all-next, all-size, by-reading, holds, fails}
 use Rattle.record.specs.WellFormed.{WellFormed}
-use Rattle.record.specs.Limits.{Bytes, longest}
+use Rattle.record.specs.Limits.{Bytes}
 use Rattle.record.proofs.WellFormed.{fine-well-formed, well-formed-fine}
 use Rattle.record.proofs.Limits.{text-limit, place-limit}
 use Rattle.record.proofs.Refusals.{refusal-number, refusal-limit}

@@ -1,7 +1,6 @@
 -- The word of each case of an answer.
-use mathlib.Core.Path.{_≡_, refl, sym, ap, ap₂, _∙_}
+use mathlib.Core.Path.{_≡_, sym, ap, ap₂, _∙_}
 use mathlib.Core.Option.{Option, none, some}
-use mathlib.Core.List.{List}
 use Prim.Native.Nat.{ℕ, _+_, _*_, _%_, _^_}
 use native.Mathlib.Omega.{arith}
 use Rattle.record_rules.specs.declared.Refusal.{Refusal}
@@ -28,7 +27,7 @@ use Rattle.annotator.specs.declared.TextAnswer.the-variants.{At, NoText}
 use Rattle.annotator.specs.declared.CheckAnswer.{CheckAnswer}
 use Rattle.annotator.specs.declared.CheckAnswer.the-variants.{Verdict, Rejected}
 use Rattle.annotator.specs.Answers.{readOutcome, textOutcome, checkOutcome}
-use Rattle.lfj.specs.Words.{refusalWord, word, readWord, goalsWord, formWord, melWord, textWord, verdictWord, checkWord}
+use Rattle.lfj.specs.Words.{refusalWord, word, readWord, formWord, melWord, textWord, verdictWord, checkWord}
 
 -- ---- A refusal's number and place make its word, and a value its own.
 module _ {s : ReadAnswer} {o : Outcome ℕ} (e : readOutcome s ≡ o) where

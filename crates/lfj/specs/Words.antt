@@ -1,7 +1,6 @@
 -- The answer word of each exported function, a number of 64 bits, over the outcomes of the operations (annotator/specs/Answers, form/specs/Form, mel/specs/Annotation). Of
 -- every word bits 56 to 63 have the refusal's number, 0 if accepted, and bits 0 to 31 the place if refused; the rest is said at each function, and is 0 with a refusal but
 -- for 13's goals.
-use mathlib.Core.Path.{_≡_}
 use mathlib.Core.List.{List}
 use mathlib.Core.Option.{Option, none, some}
 use Prim.Native.Nat.{ℕ, _+_, _*_, _%_, _^_}
@@ -11,7 +10,6 @@ use Rattle.record_rules.specs.Outcome.{Outcome, refused, accepted, readThen}
 use Rattle.order.specs.Order.{before}
 use Rattle.expression.specs.Search.{Four}
 use Rattle.expression_grammar.specs.Check.{Verdict, same, differs}
-use Rattle.form.specs.Form as F
 use Rattle.annotator.specs.declared.Span.{Span}
 use Rattle.annotator.specs.Answers.{ofGoal}
 

@@ -12,7 +12,7 @@ ghost use mathlib.Core.Path.{_≡_};
 ghost use Prim.Native.Nat.{_%_, _^_};
 ghost use Rattle.order_compare.specs.Verdicts.{verdictOf};
 ghost use mathlib.Core.Option.{some};
-ghost use Rattle.record_rules.specs.Outcome.{accepted, refused};
+ghost use Rattle.record_rules.specs.Outcome.{refused};
 ghost use Rattle.form_first_n.specs.FirstN.{four};
 ghost use Rattle.form.specs.Form as F;
 ghost use Rattle.mel.specs.Annotation as M;

@@ -1,5 +1,5 @@
 -- T10: what the definition of the annotation gives, in the words of `Plain` of `mel_stages`. For any width, any clause and any number of goals; at the end of the operation on a record.
-use mathlib.Core.Path.{_≡_, refl, sym, ap, _∙_}
+use mathlib.Core.Path.{_≡_, refl, sym, _∙_}
 use mathlib.Core.Logic.{_↔_}
 use mathlib.Core.List.{List, _++_}
 use Prim.Native.Nat.{ℕ, _<_, _≤_}

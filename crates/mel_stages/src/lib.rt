@@ -1,6 +1,6 @@
 // The stages of the MEL annotation and their checks, by masks over the goals' variable sets. Goals are numbered from 1.
 ghost use mathlib.Core.Path.{_≡_};
-ghost use Prim.Native.Nat.{ℕ, _+_, _<_, _≤_, _^_};
+ghost use Prim.Native.Nat.{_+_, _<_, _≤_, _^_};
 ghost use lib.ListN.{length, replicate};
 ghost use Rattle.sets.specs.Sets.{goalLimit, variableLimit};
 ghost use Rattle.mel_stages.specs.Mel as W;

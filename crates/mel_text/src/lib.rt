@@ -1,7 +1,7 @@
 // The texts of a clause's stages: their checks and their goals.
 ghost use mathlib.Core.Path.{_≡_};
 ghost use mathlib.Core.Bool.{true};
-ghost use Prim.Native.Nat.{ℕ, _+_, _-_, _^_, _<_, _≤_, max};
+ghost use Prim.Native.Nat.{_+_, _-_, _^_, _<_, _≤_, max};
 ghost use lib.ListN.{length};
 ghost use lib.Seq as Q;
 ghost use Rattle.sets.specs.Sets.{goalLimit, variableLimit};

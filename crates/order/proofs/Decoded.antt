@@ -70,10 +70,6 @@ module _ (b : List ℕ) (w : WellFormed b) where
 
 -- the same of a clause that was decoded
 module _ (b : List ℕ) (w : WellFormed b) (c : Clause) (e : c ≡ decoded b) where
-  pub clause-waits : {g : Graph} → g ≡ waitRows variableLimit (c .n) (c .sets) (c .grounds) (c .listed) → g ≡ waiting b
-  unfolding decoded
-  clause-waits h = h ∙ ap (λ (x : Clause). waitRows variableLimit (x .n) (x .sets) (x .grounds) (x .listed)) e ∙ waits-decoded b w
-
   pub clause-order : {g : Graph} → g ≡ orderRows variableLimit (c .n) (c .sets) (c .grounds) (c .listed) → g ≡ order b
   unfolding decoded
   clause-order h = h ∙ ap (λ (x : Clause). orderRows variableLimit (x .n) (x .sets) (x .grounds) (x .listed)) e ∙ order-decoded b w

@@ -45,9 +45,6 @@ module _ (R : ℕ → ℕ → Bool) (W : List ℕ) where
   pub q-in : (q : ℕ) → q isIn Q R W → (q isIn W) × ((u : ℕ) × (u isIn W) × (R u q ≡ true))
   q-in q m = let t = those-in (λ v. any (λ u. R u v) W) W q m in (t .0, any-true (λ u. R u q) W (t .1))
 
-  pub in-q : (q u : ℕ) → q isIn W → u isIn W → R u q ≡ true → q isIn Q R W
-  in-q q u m n h = in-those (λ v. any (λ u. R u v) W) W q m (in-any (λ u. R u q) W u n h)
-
   -- a vertex is in the one or in the other
   pub p-or-q : (v : ℕ) → v isIn W → (v isIn P R W) ⊎ (v isIn Q R W)
   p-or-q v m =

@@ -4,7 +4,7 @@ use mathlib.Core.Bool.{Bool, true, false, not, _&&_, true≢false}
 use mathlib.Core.List.{List, [], _∷_}
 use mathlib.Core.Logic.{_⊎_, inl, inr, ⊎-elim}
 use Prim.Native.Nat.{ℕ}
-use Rattle.expression.specs.Expr.{Expr, one, stands}
+use Rattle.expression.specs.Expr.{Expr, stands}
 use Rattle.expression.proofs.Fits.{In, InM, Cross, Fits, FitsM}
 use Rattle.expression.proofs.Pick.{joined-in, in-joined, joined-fits}
 use Rattle.expression.proofs.Spec.{stands-in, in-stands}

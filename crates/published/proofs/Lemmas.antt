@@ -6,7 +6,7 @@ use mathlib.Core.Logic.{_⊎_, inl, inr, ⊎-elim}
 use Prim.Native.Nat.{ℕ}
 use lib.Dec.{eqb}
 use borrow.Author.Tests.{eqb-true}
-use Rattle.expression.specs.Expr.{N, NoN}
+use Rattle.expression.specs.Expr.{NoN}
 use Rattle.expression.specs.Arrange.{Strict}
 use Rattle.logic.proofs.Bools.{test, and-true, not-true, or-true as or-cases}
 use Rattle.published.specs.Sets.{_isIn_, Disjoint, Subset, every, subset, inside, disjoint}

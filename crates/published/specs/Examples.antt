@@ -2,11 +2,11 @@
 use mathlib.Core.Path.{_≡_, refl}
 use mathlib.Core.Bool.{Bool, true, false, _&&_, _||_}
 use mathlib.Core.List.{List, [], _∷_}
-use mathlib.Core.Option.{Option, none, some}
+use mathlib.Core.Option.{none, some}
 use Prim.Native.Nat.{ℕ}
 use lib.Dec.{eqb}
 use Rattle.buffer.specs.Decimal.{decimal, decimalTo}
-use Rattle.expression.specs.Expr.{goal, join, one, more}
+use Rattle.expression.specs.Expr.{goal, join, one}
 use Rattle.expression.specs.Text.{text}
 use Rattle.expression.specs.Restore.{restore}
 use Rattle.expression.specs.Arrange.{formAny}

@@ -3,7 +3,7 @@
 // `record_pairs` hold the parts.
 use record_rules::Reading;
 ghost use mathlib.Core.Path.{_≡_};
-ghost use Prim.Native.Nat.{_+_, _<_, _≤_, _^_};
+ghost use Prim.Native.Nat.{_+_, _<_};
 ghost use mathlib.Core.Bool.{true};
 ghost use Rattle.record_fields.specs.Fields as F;
 ghost use Rattle.record_rules.specs.Fine.{headerFine};

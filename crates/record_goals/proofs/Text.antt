@@ -1,5 +1,5 @@
 -- The first bad byte of a text, as a loop looks for it.
-use mathlib.Core.Path.{_≡_, refl, sym, ap, _∙_}
+use mathlib.Core.Path.{_≡_, refl, ap, _∙_}
 use mathlib.Core.Logic.{⊎-elim}
 use mathlib.Core.Bool.{Bool, true, false, _&&_, cond}
 use mathlib.Core.List.{List}
@@ -11,7 +11,7 @@ use lib.Dec.{eqb}
 use borrow.Author.Tests.{eqb-true, eq-eqb}
 use Rattle.record_fields.specs.Fields.{byte}
 use Rattle.logic.proofs.Bools.{iff, and-l, and-r, and-i}
-use Rattle.record_rules.specs.Reading.{isTextByte, between, firstBad}
+use Rattle.record_rules.specs.Reading.{isTextByte, firstBad}
 use Rattle.record_rules.proofs.Text.{text-good, good-text}
 use Rattle.record_goals.specs.Text.{clean}
 

@@ -3,8 +3,8 @@ use mathlib.Core.Path.{_≡_, refl, sym, ap, ap₂, _∙_}
 use mathlib.Core.Logic.{_⊎_, inl, inr, ⊎-elim}
 use mathlib.Core.Bool.{Bool, true, false, not, _&&_, cond, true≢false, false≢true, and-true, and-false}
 use mathlib.Core.List.{List, [], _∷_}
-use Prim.Native.Nat.{ℕ, zero, suc, _+_, _*_, _/_, _%_, _^_, _≤_, _<_, zero-le}
-use native.Mathlib.Nat.{div-one, div-div-eq-div-mul, mul-comm, pow-suc, eq-or-lt-of-le, zero-add, mod-lt, lt-of-not-le, le-of-suc-le-suc, not-suc-le-zero, zero-lt-suc, le-refl}
+use Prim.Native.Nat.{ℕ, zero, suc, _+_, _/_, _%_, _^_, _≤_, _<_, zero-le}
+use native.Mathlib.Nat.{eq-or-lt-of-le, zero-add, mod-lt, lt-of-not-le, le-of-suc-le-suc, not-suc-le-zero, zero-lt-suc, le-refl}
 use native.Mathlib.Numerals.{one-add}
 use native.Mathlib.Omega.{arith}
 use lib.ListN.{length}
@@ -46,26 +46,12 @@ count-members (suc w) m h =
     go (suc zero) e l ih = rw (has-zero m ∙ ap (λ (x : ℕ). eqb x 1) e) (one-add (count (m / 2)) ∙ ap suc ih)
     go (suc (suc d)) e l ih = absurd (not-suc-le-zero (le-of-suc-le-suc (le-of-suc-le-suc l)))
 
--- the members from j on, counted in a word that is shifted by j
-from-shift : (j w m : ℕ) → length (membersFrom w j m) ≡ length (members w (m / 2 ^ j))
-from-shift zero w m = ap (λ (x : ℕ). length (members w x)) (sym (div-one m))
-from-shift (suc j) w m =
-    shifted w j m ∙ from-shift j w (m / 2)
-    ∙ ap (λ (x : ℕ). length (members w x)) (div-div-eq-div-mul m 2 (2 ^ j) ∙ ap (λ (x : ℕ). m / x) (mul-comm 2 (2 ^ j) ∙ sym (pow-suc 2 j)))
-
-pub count-from : (j w m : ℕ) → m / 2 ^ j < 2 ^ w → count (m / 2 ^ j) ≡ length (membersFrom w j m)
-count-from j w m h = count-members w (m / 2 ^ j) h ∙ sym (from-shift j w m)
-
--- ---- the list has the members and nothing else, in ascending order
+-- ---- the list has the members and nothing else
 
 -- x stands in the list
 abbrev pub In : ℕ → List ℕ → Type 0
 In x [] = ⊥
 In x (y ∷ l) = (x ≡ y) ⊎ In x l
-
-abbrev pub Ascending : List ℕ → Type 0
-Ascending [] = Unit {0}
-Ascending (x ∷ l) = ((y : ℕ) → In y l → x < y) × Ascending l
 
 pub in-members : (w i m x : ℕ) → In x (membersFrom w i m) → (i ≤ x) × (x < i + w) × (has m x ≡ true)
 unfolding membersFrom
@@ -88,13 +74,6 @@ members-in (suc w) i m x l h e = go (λ k. members-in w (suc i) m x k (omega ari
     go f (inr k) =
         let r = f k in
         by-test (In x) (has m i) (λ p. inr r) (λ p. r)
-
-pub members-ascend : (w i m : ℕ) → Ascending (membersFrom w i m)
-unfolding membersFrom
-members-ascend zero i m = tt
-members-ascend (suc w) i m =
-    by-test Ascending (has m i)
-    (λ e. (λ y h. in-members w (suc i) m y h .0, members-ascend w (suc i) m)) (λ e. members-ascend w (suc i) m)
 
 -- ---- the first member, and the others
 

@@ -12,7 +12,7 @@ use lib.Pow.{pow-pos, pow-lt, pow-mono}
 use lib.Count.{trailingZeros, under}
 use borrow.Author.Tests.{lt-ltb, le-ltb, ltb-true, eq-eqb, ne-eqb, eqb-true, eqb-false}
 use Rattle.logic.proofs.Bools.{and-not, and-not-i}
-use Rattle.sets.specs.Sets.{has, union, meet, without, single, below, within, subset, first, members}
+use Rattle.sets.specs.Sets.{has, union, meet, without, single, below, within, subset, first}
 
 two-pos : 0 < 2
 two-pos = zero-lt-suc 1

@@ -15,7 +15,7 @@ use Rattle.record_rules.specs.Reading.{textLimit}
 use Rattle.record.specs.WellFormed.{WellFormed}
 use Rattle.record.proofs.Limits.{text-limit, goal-there, place-limit}
 use Rattle.expression.specs.Search.{Four}
-use Rattle.sheet_text.specs.Sheet.{goalsWord, formWord, noneWord, refusedWord, line, spaced, refusedText, goalLines, noneLine, goalText}
+use Rattle.sheet_text.specs.Sheet.{goalsWord, formWord, noneWord, refusedWord, spaced, refusedText, goalLines, noneLine, goalText}
 use Rattle.sheet_text.specs.Parts.{lineRoom, countLine, goalLine}
 
 -- a machine's number has at most 20 digits

@@ -7,18 +7,16 @@
 -- T6 is `demand` of the crate `form`, T10 stands in `mel`: both speak of the operation already.
 use mathlib.Core.Path.{_≡_, refl, sym, ap, _∙_, subst}
 use mathlib.Core.Bool.{Bool, true}
-use mathlib.Core.List.{List, [], _++_}
+use mathlib.Core.List.{List, []}
 use mathlib.Core.Logic.{_↔_}
 use mathlib.Core.Option.{Option, none, some}
-use Prim.Native.Nat.{ℕ, _≤_, _<_}
+use Prim.Native.Nat.{ℕ}
 use native.Mathlib.Omega.{arith}
-use lib.ListN.{length, drop}
 use denote.Ref.{RefT}
 use Rattle.sets.specs.Sets.{goalLimit}
-use Rattle.graph.specs.Graph.{ahead, edgeless, graphOf}
+use Rattle.graph.specs.Graph.{ahead, graphOf}
 use Rattle.graph.specs.declared.Graph.{Graph}
 use Rattle.graph.proofs.Rows.{rows-say}
-use Rattle.record_rules.specs.declared.Reading.{Reading}
 use Rattle.record_rules.specs.declared.Reading.the-variants.{Fine}
 use Rattle.record_fields.specs.Fields.{goalCount}
 use Rattle.record_rules.specs.Reading.{reading}
@@ -26,7 +24,6 @@ use Rattle.record.specs.WellFormed.{WellFormed}
 use Rattle.record.proofs.WellFormed.{well-formed-fine}
 use Rattle.expression.specs.Expr as E
 use Rattle.expression.specs.Expr.{Expr, Goals, UsesOnce, House, HouseForm, Order}
-use Rattle.graph.specs.Closure.{closed}
 use Rattle.expression.specs.Form.{form}
 use Rattle.expression.specs.Restore.{restore}
 use Rattle.expression.specs.Search.{Four, firstN}
@@ -34,11 +31,11 @@ use Rattle.expression.specs.Text.{text}
 use Rattle.expression.proofs.Theorems.{has-order-is, form-unique, order-strict}
 use Rattle.order.specs.Order as O
 use Rattle.order.specs.Order.{before}
-use Rattle.order.proofs.Theorems.{before-is, before-order, before-closed}
+use Rattle.order.proofs.Theorems.{before-is, before-order}
 use Rattle.record_rules.specs.Outcome.{Outcome, refused, accepted, values}
 use Rattle.record_rules.proofs.Outcomes.{told-apart, one-value}
 use Rattle.form.specs.Form.{orThirteen, formText, formAnswer}
-use Rattle.form.specs.Demand.{HasForm, Demand}
+use Rattle.form.specs.Demand.{HasForm}
 use Rattle.form.proofs.Outcomes.{thirteen-none}
 use Rattle.form.proofs.Theorems.{settles, the-form, found-thirteen, thirteen-found, demand}
 use Rattle.expression_grammar.specs.Check.{same, differs, firstDiffer, verdict, judged, checked}
@@ -48,11 +45,7 @@ use Rattle.expression_grammar.proofs.Theorems.{form-same}
 use Rattle.published.specs.Figure1.{figure1}
 use Rattle.published.specs.Linear.{udgExpr}
 use Rattle.published.proofs.Theorems.{figure-1-first-n, udg-text}
-use Rattle.mel_stages.specs.Mel.{Ground, Indep, goalsFrom, stages, checks}
-use Rattle.mel_stages.specs.Plain.{All, Among, goalsOf, Sound, Grounded, Separate, Ascending}
-use Rattle.mel.specs.Annotation as M
-use Rattle.mel.specs.Annotation.{factsOf, mel, melAnswer, melBuffer}
-use Rattle.mel.proofs.Theorems as M′
+use Rattle.mel_stages.specs.Mel.{checks}
 use Rattle.annotator.specs.declared.Span.{Span}
 use Rattle.annotator.specs.declared.TextAnswer.{TextAnswer}
 use Rattle.annotator.specs.Answers.{orderGraph, goalText, textOutcome, noSpan, textPart, check}

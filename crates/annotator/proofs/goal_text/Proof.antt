@@ -1,7 +1,7 @@
 use mathlib.Core.Path.{_≡_, refl, ap₂, _∙_}
-use Prim.Native.Nat.{ℕ, _+_, _-_, _≤_}
+use Prim.Native.Nat.{ℕ, _+_, _-_}
 use native.Mathlib.Omega.{arith}
-use lib.ListN.{length, take, drop}
+use lib.ListN.{take, drop}
 use Rattle.annotator.proofs.Answers.{span-inside, span-is, none-is}
 use borrow.Author.Needs.{needs}
 use Rattle.annotator.proofs.goal_text.Statement.{statement}

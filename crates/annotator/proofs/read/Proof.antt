@@ -1,5 +1,3 @@
-use mathlib.Core.Path.{_≡_, sym, ap, _∙_}
-use native.Mathlib.Omega.{arith}
 use Rattle.annotator.proofs.Answers.{read-accepted, read-turned}
 use borrow.Author.Needs.{needs}
 use Rattle.annotator.proofs.read.Statement.{statement}

@@ -1,15 +1,10 @@
 use Rattle.case_lines.proofs.Fields.{past-hit, past-none}
-use mathlib.Core.Path.{_≡_, refl, sym, ap, _∙_}
-use Prim.Native.Nat.{ℕ, suc, _+_, _-_, _≤_, _<_, _^_}
+use Prim.Native.Nat.{_-_}
 use native.Mathlib.Omega.{arith}
-use lib.ListN.{length, drop, take}
 use borrow.Author.Needs.{needs}
 use borrow.Author.Needs.{needs}
 use Rattle.case_lines.proofs.after.Statement.{statement}
 use Rattle.case_lines.proofs.after.Tie as tie
-use Rattle.case_lines.proofs.after.Reads as reads
-use Rattle.case_lines.proofs.after.Lts as lts
-use Rattle.case_lines.proofs.find.Reads as find-reads
 
 find-requires : tie.Need-find-requires
 find-requires c κs = search needs

@@ -1,17 +1,12 @@
 use borrow.Author.Needs.{needs}
-use mathlib.Core.Path.{_≡_, refl, sym, ap, _∙_}
-use Prim.Native.Nat.{ℕ, suc, _+_, _-_, _≤_, _<_, _^_}
+use Prim.Native.Nat.{_-_, _≤_}
 use native.Mathlib.Omega.{arith}
-use lib.ListN.{length, drop, take}
+use lib.ListN.{length, drop}
 use Rattle.buffer.proofs.Writing.{Left, start, onward, done, left-kept}
 use Rattle.case_lines.specs.Line.{bytesOf}
 use Rattle.case_lines.proofs.Fields.{bytes-more, bytes-last, bytes-end}
 use Rattle.case_lines.proofs.bytes.Statement.{statement}
 use Rattle.case_lines.proofs.bytes.Tie as tie
-use Rattle.case_lines.proofs.bytes.Reads as reads
-use Rattle.case_lines.proofs.bytes.Lts as lts
-use Rattle.case_lines.proofs.nibble.Reads as nibble-reads
-use Rattle.buffer.proofs.put_byte.Reads as put-byte-reads
 
 abbrev Inv-loop : tie.InvT-loop
 Inv-loop s out₀ o₀ i₀ out o i = (i ≤ length s) × (o ≤ i) × Left (bytesOf (drop i s)) (bytesOf s) 0 out₀ o out

@@ -7,10 +7,6 @@ use Rattle.case_lines.proofs.Fields.{field-is}
 use borrow.Author.Needs.{needs}
 use Rattle.case_lines.proofs.field.Statement.{statement}
 use Rattle.case_lines.proofs.field.Tie as tie
-use Rattle.case_lines.proofs.field.Reads as reads
-use Rattle.case_lines.proofs.field.Lts as lts
-use Rattle.case_lines.proofs.field_start.Reads as field-start-reads
-use Rattle.case_lines.proofs.find.Reads as find-reads
 
 field-start-requires : tie.Need-field-start-requires
 field-start-requires c κs = search needs

@@ -1,15 +1,12 @@
-use mathlib.Core.Path.{_≡_, refl, sym, ap, _∙_}
-use Prim.Native.Nat.{ℕ, suc, _+_, _-_, _≤_, _<_, _^_}
+use mathlib.Core.Path.{_≡_, sym, ap, _∙_}
+use Prim.Native.Nat.{ℕ, _-_, _≤_}
 use native.Mathlib.Omega.{arith}
-use lib.ListN.{length, drop, take}
+use lib.ListN.{length, drop}
 use borrow.Author.Needs.{needs}
 use Rattle.case_lines.specs.Line.{past, pastFields}
 use Rattle.case_lines.proofs.Fields.{fields-zero, fields-more}
 use Rattle.case_lines.proofs.field_start.Statement.{statement}
 use Rattle.case_lines.proofs.field_start.Tie as tie
-use Rattle.case_lines.proofs.field_start.Reads as reads
-use Rattle.case_lines.proofs.field_start.Lts as lts
-use Rattle.case_lines.proofs.after.Reads as after-reads
 
 abbrev Inv-loop : tie.InvT-loop
 Inv-loop s k at₀ i₀ at i = (at ≤ length s) × (i ≤ k) × (drop at s ≡ pastFields i s)

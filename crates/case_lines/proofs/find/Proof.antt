@@ -1,14 +1,12 @@
 use borrow.Author.Needs.{needs}
-use mathlib.Core.Path.{_≡_, refl, sym, ap, _∙_}
-use Prim.Native.Nat.{ℕ, suc, _+_, _-_, _≤_, _<_, _^_}
+use mathlib.Core.Path.{_≡_, refl}
+use Prim.Native.Nat.{_+_, _-_, _≤_}
 use native.Mathlib.Omega.{arith}
-use lib.ListN.{length, drop, take}
+use lib.ListN.{length, drop}
 use Rattle.case_lines.specs.Line.{upTo}
 use Rattle.case_lines.proofs.Fields.{up-hit, up-miss, up-end}
 use Rattle.case_lines.proofs.find.Statement.{statement}
 use Rattle.case_lines.proofs.find.Tie as tie
-use Rattle.case_lines.proofs.find.Reads as reads
-use Rattle.case_lines.proofs.find.Lts as lts
 
 abbrev Inv-loop : tie.InvT-loop
 Inv-loop s from stop at₀ at = (from ≤ at) × (at ≤ length s) × (at + upTo stop (drop at s) ≡ from + upTo stop (drop from s))

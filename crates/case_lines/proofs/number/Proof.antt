@@ -1,16 +1,13 @@
 use native.Mathlib.Nat.{mod-lt}
 use borrow.Author.Needs.{needs}
-use mathlib.Core.Path.{_≡_, refl, sym, ap, _∙_}
-use Prim.Native.Nat.{ℕ, suc, _+_, _-_, _≤_, _<_, _^_}
+use mathlib.Core.Path.{_≡_, refl, sym, _∙_}
+use Prim.Native.Nat.{_-_, _≤_, _<_, _^_}
 use native.Mathlib.Omega.{arith}
-use lib.ListN.{length, drop, take}
+use lib.ListN.{length, drop}
 use Rattle.case_lines.specs.Line.{valueOf}
 use Rattle.case_lines.proofs.Fields.{value-more, value-end}
 use Rattle.case_lines.proofs.number.Statement.{statement}
 use Rattle.case_lines.proofs.number.Tie as tie
-use Rattle.case_lines.proofs.number.Reads as reads
-use Rattle.case_lines.proofs.number.Lts as lts
-use Rattle.case_lines.proofs.wide.Reads as wide-reads
 
 abbrev Inv-loop : tie.InvT-loop
 Inv-loop s v₀ i₀ v i = (i ≤ length s) × (v < 2 ^ 32) × (valueOf v (drop i s) ≡ valueOf 0 s)

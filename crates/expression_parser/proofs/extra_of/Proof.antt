@@ -4,8 +4,6 @@ use Prim.Native.Nat.{ℕ}
 use borrow.Author.Tests.{le-leb, lt-leb}
 use Rattle.expression_parser.proofs.extra_of.Statement.{statement}
 use Rattle.expression_parser.proofs.extra_of.Tie as tie
-use Rattle.expression_parser.proofs.extra_of.Reads as reads
-use Rattle.expression_parser.proofs.extra_of.Lts as lts
 
 returns : tie.Need-returns
 returns c = sym (ap (λ b. cond {A = ℕ} b 0 1) (le-leb (c .before .args .v) 32 (c .if1 .taken)))

@@ -1,10 +1,6 @@
 use borrow.Author.Needs.{needs}
 use Rattle.expression_parser.proofs.goal.Statement.{statement}
 use Rattle.expression_parser.proofs.goal.Tie as tie
-use Rattle.expression_parser.proofs.goal.Reads as reads
-use Rattle.expression_parser.proofs.goal.Lts as lts
-use Rattle.expression_parser.proofs.extra_of.Reads as extra-of-reads
-use Rattle.expression_parser.proofs.mask_of.Reads as mask-of-reads
 
 mask-of-requires : tie.Need-mask-of-requires
 mask-of-requires c κs = search needs

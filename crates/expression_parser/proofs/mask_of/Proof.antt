@@ -6,8 +6,6 @@ use Rattle.sets.specs.Sets.{single}
 use borrow.Author.Needs.{needs}
 use Rattle.expression_parser.proofs.mask_of.Statement.{statement}
 use Rattle.expression_parser.proofs.mask_of.Tie as tie
-use Rattle.expression_parser.proofs.mask_of.Reads as reads
-use Rattle.expression_parser.proofs.mask_of.Lts as lts
 
 single-requires : tie.Need-single-requires
 single-requires c κs = search needs

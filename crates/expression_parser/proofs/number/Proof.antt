@@ -8,10 +8,6 @@ use Rattle.expression_parser.proofs.Digits.{num-bad, num-one, num-two}
 use borrow.Author.Needs.{needs}
 use Rattle.expression_parser.proofs.number.Statement.{statement}
 use Rattle.expression_parser.proofs.number.Tie as tie
-use Rattle.expression_parser.proofs.number.Reads as reads
-use Rattle.expression_parser.proofs.number.Lts as lts
-use Rattle.expression_parser.proofs.goal.Reads as goal-reads
-use Rattle.buffer.proofs.byte.Reads as byte-reads
 
 byte-requires : tie.Need-byte-requires
 byte-requires c κs = search needs

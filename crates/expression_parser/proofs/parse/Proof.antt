@@ -2,9 +2,6 @@ use Rattle.expression_parser.proofs.Primaries.{whole-bad, whole-left, w
 use borrow.Author.Needs.{needs}
 use Rattle.expression_parser.proofs.parse.Statement.{statement}
 use Rattle.expression_parser.proofs.parse.Tie as tie
-use Rattle.expression_parser.proofs.parse.Reads as reads
-use Rattle.expression_parser.proofs.parse.Lts as lts
-use Rattle.expression_parser.proofs.sequence.Reads as sequence-reads
 
 sequence-requires : tie.Need-sequence-requires
 sequence-requires c κs = search needs

@@ -7,13 +7,6 @@ use Rattle.sets.specs.Sets.{has, union, single}
 use Rattle.expression_reading.proofs.Scans.{Scanned, scanned-start, scanned-above, scanned-met, scanned-more, scanned-skip, scanned-end}
 use Rattle.expression_reading.proofs.fault.Statement.{statement}
 use Rattle.expression_reading.proofs.fault.Tie as tie
-use Rattle.expression_reading.proofs.fault.Reads as reads
-use Rattle.expression_reading.proofs.fault.Lts as lts
-use Rattle.expression_reading.proofs.is_digit.Reads as is-digit-reads
-use Rattle.expression_reading.proofs.number_at.Reads as number-at-reads
-use Rattle.sets.proofs.has.Reads as has-reads
-use Rattle.sets.proofs.single.Reads as single-reads
-use Rattle.sets.proofs.union.Reads as union-reads
 
 abbrev Inv-loop : tie.InvT-loop
 Inv-loop text n at₀ met₀ at met = Scanned n text at met

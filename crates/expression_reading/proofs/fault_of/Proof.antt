@@ -3,10 +3,6 @@ use Rattle.expression_reading.proofs.Texts.{fault-none}
 use borrow.Author.Needs.{needs}
 use Rattle.expression_reading.proofs.fault_of.Statement.{statement}
 use Rattle.expression_reading.proofs.fault_of.Tie as tie
-use Rattle.expression_reading.proofs.fault_of.Reads as reads
-use Rattle.expression_reading.proofs.fault_of.Lts as lts
-use Rattle.sets.proofs.below32.Reads as below32-reads
-use Rattle.expression_reading.proofs.fault.Reads as fault-reads
 
 below32-requires : tie.Need-below32-requires
 below32-requires c κs = search needs

@@ -4,8 +4,6 @@ use lib.Dec.{leb}
 use borrow.Author.Tests.{le-leb, lt-leb}
 use Rattle.expression_reading.proofs.is_digit.Statement.{statement}
 use Rattle.expression_reading.proofs.is_digit.Tie as tie
-use Rattle.expression_reading.proofs.is_digit.Reads as reads
-use Rattle.expression_reading.proofs.is_digit.Lts as lts
 
 returns : tie.Need-returns
 returns c = sym (ap (λ z. z && leb (c .before .args .b) 57) (le-leb 48 (c .before .args .b) (c .if1 .taken)))

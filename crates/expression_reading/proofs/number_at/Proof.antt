@@ -7,10 +7,6 @@ use Rattle.expression_reading.proofs.Scans.{digit-is, value-two, value-
 use borrow.Author.Needs.{needs}
 use Rattle.expression_reading.proofs.number_at.Statement.{statement}
 use Rattle.expression_reading.proofs.number_at.Tie as tie
-use Rattle.expression_reading.proofs.number_at.Reads as reads
-use Rattle.expression_reading.proofs.number_at.Lts as lts
-use Rattle.buffer.proofs.byte.Reads as byte-reads
-use Rattle.expression_reading.proofs.is_digit.Reads as is-digit-reads
 
 byte-requires : tie.Need-byte-requires
 byte-requires c κs = search needs

@@ -7,13 +7,6 @@ use Rattle.expression_reading.proofs.Texts.{text-short, text-long, text
 use borrow.Author.Needs.{needs}
 use Rattle.expression_reading.proofs.read_text.Statement.{statement}
 use Rattle.expression_reading.proofs.read_text.Tie as tie
-use Rattle.expression_reading.proofs.read_text.Reads as reads
-use Rattle.expression_reading.proofs.read_text.Lts as lts
-use Rattle.expression_parser.proofs.parse.Reads as parse-reads
-use Rattle.expression_reading.proofs.fault_of.Reads as fault-of-reads
-use Rattle.expression_reading.proofs.refused.Reads as refused-reads
-use Rattle.sets.proofs.below32.Reads as below32-reads
-use Rattle.sets.proofs.subset32.Reads as subset32-reads
 
 refused-requires : tie.Need-refused-requires
 refused-requires c κs = search needs

@@ -1,9 +1,6 @@
 use borrow.Author.Needs.{needs}
 use Rattle.expression_reading.proofs.refused.Statement.{statement}
 use Rattle.expression_reading.proofs.refused.Tie as tie
-use Rattle.expression_reading.proofs.refused.Reads as reads
-use Rattle.expression_reading.proofs.refused.Lts as lts
-use Rattle.graph.proofs.Graph.empty.Reads as empty-reads
 
 empty-requires : tie.Need-empty-requires
 empty-requires c κs = search needs

@@ -16,15 +16,6 @@ use Rattle.form_first_n.proofs.Loops.{atD, atC, atB, atA}
 use Rattle.form_first_n.proofs.Candidates.{left-a, left-b, left-c, miss, hit}
 use Rattle.form_first_n.proofs.first_n.Statement.{statement}
 use Rattle.form_first_n.proofs.first_n.Tie as tie
-use Rattle.form_first_n.proofs.first_n.Reads as reads
-use Rattle.form_first_n.proofs.first_n.Lts as lts
-use Rattle.form_first_n.proofs.lasts.Reads as lasts-reads
-use Rattle.form_first_n.proofs.leading.Reads as leading-reads
-use Rattle.form_first_n.proofs.seconds.Reads as seconds-reads
-use Rattle.form_first_n.proofs.thirds.Reads as thirds-reads
-use Rattle.sets.proofs.first32.Reads as first32-reads
-use Rattle.sets.proofs.has32.Reads as has32-reads
-use Rattle.sets.proofs.without_first32.Reads as without-first32-reads
 
 abbrev Inv-loop3 : tie.InvT-loop3
 Inv-loop3 rows prior n answer₀ lead firsts a bs b cs c ds d₀ answer d = (answer ≡ Nothing) × Passed n (λ i. atD (ahead rows) n (suc a) (suc b) (suc c) i) d

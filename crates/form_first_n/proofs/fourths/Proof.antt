@@ -5,10 +5,6 @@ use Rattle.sets.specs.Sets.{without}
 use Rattle.form_first_n.specs.Candidates.{fourths}
 use Rattle.form_first_n.proofs.fourths.Statement.{statement}
 use Rattle.form_first_n.proofs.fourths.Tie as tie
-use Rattle.form_first_n.proofs.fourths.Reads as reads
-use Rattle.form_first_n.proofs.fourths.Lts as lts
-use Rattle.form_first_n.proofs.related.Reads as related-reads
-use Rattle.sets.proofs.without32.Reads as without32-reads
 
 related-requires : tie.Need-related-requires
 related-requires c κs = search needs

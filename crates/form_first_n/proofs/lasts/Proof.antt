@@ -5,11 +5,6 @@ use Rattle.form_first_n.specs.Candidates.{lasts}
 use borrow.Author.Needs.{needs}
 use Rattle.form_first_n.proofs.lasts.Statement.{statement}
 use Rattle.form_first_n.proofs.lasts.Tie as tie
-use Rattle.form_first_n.proofs.lasts.Reads as reads
-use Rattle.form_first_n.proofs.lasts.Lts as lts
-use Rattle.form_first_n.proofs.fourths.Reads as fourths-reads
-use Rattle.form_first_n.proofs.related.Reads as related-reads
-use Rattle.sets.proofs.without32.Reads as without32-reads
 
 fourths-requires : tie.Need-fourths-requires
 fourths-requires c κs = search needs

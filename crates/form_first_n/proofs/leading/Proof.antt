@@ -8,9 +8,6 @@ use Rattle.form_first_n.specs.Candidates.{leading}
 use Rattle.form_first_n.proofs.Candidates.{leading-none, leading-more}
 use Rattle.form_first_n.proofs.leading.Statement.{statement}
 use Rattle.form_first_n.proofs.leading.Tie as tie
-use Rattle.form_first_n.proofs.leading.Reads as reads
-use Rattle.form_first_n.proofs.leading.Lts as lts
-use Rattle.sets.proofs.union32.Reads as union32-reads
 
 abbrev Inv-loop : tie.InvT-loop
 Inv-loop prior n set₀ j₀ set j = (j ≤ n) × (set ≡ leading prior j)

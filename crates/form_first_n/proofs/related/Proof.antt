@@ -2,8 +2,6 @@ use Rattle.form_first_n.specs.Candidates.{related}
 use borrow.Author.Needs.{needs}
 use Rattle.form_first_n.proofs.related.Statement.{statement}
 use Rattle.form_first_n.proofs.related.Tie as tie
-use Rattle.form_first_n.proofs.related.Reads as reads
-use Rattle.form_first_n.proofs.related.Lts as lts
 
 mul-after : tie.Need-mul-after
 mul-after c = search needs

@@ -6,11 +6,6 @@ use Rattle.sets.specs.Sets.{without, single}
 use Rattle.form_first_n.specs.Candidates.{seconds}
 use Rattle.form_first_n.proofs.seconds.Statement.{statement}
 use Rattle.form_first_n.proofs.seconds.Tie as tie
-use Rattle.form_first_n.proofs.seconds.Reads as reads
-use Rattle.form_first_n.proofs.seconds.Lts as lts
-use Rattle.form_first_n.proofs.related.Reads as related-reads
-use Rattle.graph.proofs.Graph.single.Reads as single-reads
-use Rattle.sets.proofs.without32.Reads as without32-reads
 
 related-requires : tie.Need-related-requires
 related-requires c κs = search needs

@@ -3,10 +3,6 @@ use mathlib.Core.Path.{sym, _∙_}
 use Rattle.form_first_n.proofs.Candidates.{thirds-none, thirds-some}
 use Rattle.form_first_n.proofs.thirds.Statement.{statement}
 use Rattle.form_first_n.proofs.thirds.Tie as tie
-use Rattle.form_first_n.proofs.thirds.Reads as reads
-use Rattle.form_first_n.proofs.thirds.Lts as lts
-use Rattle.form_first_n.proofs.fourths.Reads as fourths-reads
-use Rattle.sets.proofs.meet32.Reads as meet32-reads
 
 fourths-requires : tie.Need-fourths-requires
 fourths-requires c κs = search needs

@@ -4,12 +4,6 @@ use Rattle.sets.specs.Sets.{union, count}
 use Rattle.form_split.proofs.Grow.{alone, Growing, grow-alone, grow-begin, grow-step, grow-done}
 use Rattle.form_split.proofs.component.Statement.{statement}
 use Rattle.form_split.proofs.component.Tie as tie
-use Rattle.form_split.proofs.component.Reads as reads
-use Rattle.form_split.proofs.component.Lts as lts
-use Rattle.graph.proofs.Graph.single.Reads as single-reads
-use Rattle.sets.proofs.without32.Reads as without32-reads
-use Rattle.form_split.proofs.hanging.Reads as hanging-reads
-use Rattle.form_split.proofs.pending.Reads as pending-reads
 
 abbrev Inv-loop : tie.InvT-loop
 Inv-loop after prior k set x start rest first left₀ todo₀ left todo = Growing after k set x left todo

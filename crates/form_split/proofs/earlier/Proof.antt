@@ -3,9 +3,6 @@ use Rattle.form_split.proofs.Starting.{earlier-sequence, earlier-group}
 use borrow.Author.Needs.{needs}
 use Rattle.form_split.proofs.earlier.Statement.{statement}
 use Rattle.form_split.proofs.earlier.Tie as tie
-use Rattle.form_split.proofs.earlier.Reads as reads
-use Rattle.form_split.proofs.earlier.Lts as lts
-use Rattle.sets.proofs.meet32.Reads as meet32-reads
 
 mul-before : tie.Need-mul-before
 mul-before c = search needs

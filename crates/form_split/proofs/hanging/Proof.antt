@@ -3,10 +3,6 @@ use Rattle.form_split.proofs.Grow.{hanging-sequence, hanging-group}
 use borrow.Author.Needs.{needs}
 use Rattle.form_split.proofs.hanging.Statement.{statement}
 use Rattle.form_split.proofs.hanging.Tie as tie
-use Rattle.form_split.proofs.hanging.Reads as reads
-use Rattle.form_split.proofs.hanging.Lts as lts
-use Rattle.sets.proofs.meet32.Reads as meet32-reads
-use Rattle.sets.proofs.without32.Reads as without32-reads
 
 mul-later : tie.Need-mul-later
 mul-later c = search needs

@@ -1,8 +1,6 @@
 use Rattle.form_split.proofs.Grow.{pending-none, pending-some}
 use Rattle.form_split.proofs.pending.Statement.{statement}
 use Rattle.form_split.proofs.pending.Tie as tie
-use Rattle.form_split.proofs.pending.Reads as reads
-use Rattle.form_split.proofs.pending.Lts as lts
 
 returns : tie.Need-returns
 returns c = pending-none _ _ (c .if1 .taken)

@@ -6,10 +6,6 @@ use Rattle.graph.proofs.Goals.{lowest-in}
 use Rattle.form_split.proofs.Starting.{Tried, try-begin, try-step, step-under, tried}
 use Rattle.form_split.proofs.start.Statement.{statement}
 use Rattle.form_split.proofs.start.Tie as tie
-use Rattle.form_split.proofs.start.Reads as reads
-use Rattle.form_split.proofs.start.Lts as lts
-use Rattle.sets.proofs.first32.Reads as first32-reads
-use Rattle.form_split.proofs.earlier.Reads as earlier-reads
 
 abbrev Inv-loop : tie.InvT-loop
 Inv-loop prior k rest x₀ before₀ x before = Tried prior k rest 32 x before

@@ -1,4 +1,3 @@
-use borrow.Author.Needs.{needs}
 use native.Mathlib.Omega.{arith}
 use Prim.Native.Nat.{_+_, _-_, _*_, _<_}
 use borrow.Author.Tests.{le-ltb}
@@ -7,9 +6,6 @@ use Rattle.graph.proofs.Widths.{width-some, next-block}
 use Rattle.graph.proofs.Turning.{Through, through-start, through-step, through-end}
 use Rattle.graph.proofs.exchange.Statement.{statement}
 use Rattle.graph.proofs.exchange.Tie as tie
-use Rattle.graph.proofs.exchange.Reads as reads
-use Rattle.graph.proofs.exchange.Lts as lts
-use Rattle.graph.proofs.exchange_block.Reads as exchange-block-reads
 
 abbrev Inv-loop : tie.InvT-loop
 Inv-loop rows₀ n width half start₀ rows start = Through width rows₀ start rows × (start < n + 2 * width)

@@ -3,10 +3,6 @@ use Prim.Native.Nat.{_-_, _^_, _<_}
 use Rattle.graph.proofs.Turning.{Mixed, mixed-start, mixed-step, mixed-end}
 use Rattle.graph.proofs.exchange_block.Statement.{statement}
 use Rattle.graph.proofs.exchange_block.Tie as tie
-use Rattle.graph.proofs.exchange_block.Reads as reads
-use Rattle.graph.proofs.exchange_block.Lts as lts
-use Rattle.graph.proofs.far_row.Reads as far-row-reads
-use Rattle.graph.proofs.near_row.Reads as near-row-reads
 
 abbrev Inv-loop : tie.InvT-loop
 Inv-loop rows₀ start width half end i₀ rows i = Mixed width start rows₀ i rows

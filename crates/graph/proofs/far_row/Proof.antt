@@ -1,13 +1,10 @@
 use borrow.Author.Needs.{needs}
-use mathlib.Core.Path.{_≡_, ap, _∙_}
+use mathlib.Core.Path.{ap, _∙_}
 use Prim.Native.Nat.{ℕ, _/_, _^_, _≤_}
 use Rattle.sets.specs.Sets.{has, union, meet}
 use Rattle.graph.proofs.Widths.{width-some, far-has}
 use Rattle.graph.proofs.far_row.Statement.{statement}
 use Rattle.graph.proofs.far_row.Tie as tie
-use Rattle.graph.proofs.far_row.Reads as reads
-use Rattle.graph.proofs.far_row.Lts as lts
-use Rattle.sets.proofs.without32.Reads as without32-reads
 
 cast-result : tie.Need-cast-result
 cast-result c = let w : c .args .width ≤ 16 = width-some _ (c .pre .0) .1 in search needs

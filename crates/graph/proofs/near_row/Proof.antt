@@ -3,8 +3,6 @@ use Prim.Native.Nat.{_≤_}
 use Rattle.graph.proofs.Widths.{width-some, near-has}
 use Rattle.graph.proofs.near_row.Statement.{statement}
 use Rattle.graph.proofs.near_row.Tie as tie
-use Rattle.graph.proofs.near_row.Reads as reads
-use Rattle.graph.proofs.near_row.Lts as lts
 
 cast-result : tie.Need-cast-result
 cast-result c = let w : c .args .width ≤ 16 = width-some _ (c .pre .0) .1 in search needs

@@ -1,13 +1,9 @@
-use borrow.Author.Needs.{needs}
 use mathlib.Core.Path.{refl}
 use mathlib.Core.Logic.{inl, inr}
 use Rattle.graph.proofs.Widths.{half-16, half-8, half-4, half-2, half-1}
 use Rattle.graph.proofs.Turning.{within-words, round-words, five-rounds}
 use Rattle.graph.proofs.transpose.Statement.{statement}
 use Rattle.graph.proofs.transpose.Tie as tie
-use Rattle.graph.proofs.transpose.Reads as reads
-use Rattle.graph.proofs.transpose.Lts as lts
-use Rattle.graph.proofs.exchange.Reads as exchange-reads
 
 exchange-requires : tie.Need-exchange-requires
 exchange-requires c κs =

@@ -1,9 +1,8 @@
-use Prim.Native.Nat.{ℕ, _≤_, _<_, _+_, _-_}
-use mathlib.Core.Path.{_≡_, refl, sym, ap, _∙_}
+use Prim.Native.Nat.{ℕ, _≤_, _-_}
+use mathlib.Core.Path.{_≡_, sym, ap, _∙_}
 use native.Mathlib.Omega.{arith}
 use denote.Ref.{now}
-use lib.ListN.{length, getD, replicate, length-replicate}
-use Rattle.mel_stages.specs.Mel as W
+use lib.ListN.{length, replicate, length-replicate}
 use Rattle.mel_stages.specs.Masks as M
 use Rattle.mel_stages.proofs.Own.{own-none, own-turn}
 use borrow.Author.Needs.{needs}

@@ -7,12 +7,6 @@ use Rattle.sets.specs.Sets.{union, single, first, setOf}
 use Rattle.order_compare.proofs.Rows.{apart, marks-start, marks-more, compare-end, compare-row, compare-place, compare-hit}
 use Rattle.order_compare.proofs.compare.Statement.{statement}
 use Rattle.order_compare.proofs.compare.Tie as tie
-use Rattle.order_compare.proofs.compare.Reads as reads
-use Rattle.order_compare.proofs.compare.Lts as lts
-use Rattle.order_compare.proofs.odd.Reads as odd-reads
-use Rattle.graph.proofs.Graph.single.Reads as single-reads
-use Rattle.sets.proofs.below32.Reads as below32-reads
-use Rattle.sets.proofs.first32.Reads as first32-reads
 
 abbrev Inv-loop : tie.InvT-loop
 Inv-loop a b n goals uneven₀ k₀ uneven k = (k ≤ n) × (uneven ≡ setOf k (apart n a b))

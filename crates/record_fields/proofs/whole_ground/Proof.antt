@@ -2,7 +2,6 @@ use mathlib.Core.Path.{_∙_, sym}
 use native.Mathlib.Omega.{arith}
 use denote.Ref.{now}
 use Rattle.record_fields.proofs.Facts.{length-own, ground-own, ground-plain}
-use borrow.Author.Needs.{needs}
 use Rattle.record_fields.proofs.whole_ground.Statement.{statement}
 use Rattle.record_fields.proofs.whole_ground.Tie as tie
 

@@ -5,9 +5,6 @@ use native.Mathlib.Omega.{arith}
 use lib.ListN.{length, length-set}
 use Rattle.run_cases.proofs.read_line.Statement.{statement}
 use Rattle.run_cases.proofs.read_line.Tie as tie
-use Rattle.run_cases.proofs.read_line.Reads as reads
-use Rattle.run_cases.proofs.read_line.Lts as lts
-use Rattle.run_cases.proofs.next_byte.Reads as next-byte-reads
 
 abbrev Inv-loop : tie.InvT-loop
 Inv-loop fd line₀ at₀ line at = (length line ≡ length line₀) × (at ≤ length line)

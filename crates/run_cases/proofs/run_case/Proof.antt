@@ -5,12 +5,6 @@ use Rattle.buffer.proofs.Writing.{kept}
 use borrow.Author.Needs.{needs}
 use Rattle.run_cases.proofs.run_case.Statement.{statement}
 use Rattle.run_cases.proofs.run_case.Tie as tie
-use Rattle.run_cases.proofs.run_case.Reads as reads
-use Rattle.run_cases.proofs.run_case.Lts as lts
-use Rattle.case_lines.proofs.bytes.Reads as bytes-reads
-use Rattle.case_lines.proofs.field.Reads as field-reads
-use Rattle.run_cases.proofs.least.Reads as least-reads
-use Rattle.run_cases.proofs.run_operation.Reads as run-operation-reads
 
 -- src/main.rt:242:32
 field-requires : tie.Need-field-requires

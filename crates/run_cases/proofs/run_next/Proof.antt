@@ -1,13 +1,8 @@
 use mathlib.Core.Path.{sym}
-use native.Mathlib.Omega.{arith}
 use lib.Seq.{length-take-le}
 use borrow.Author.Needs.{needs}
 use Rattle.run_cases.proofs.run_next.Statement.{statement}
 use Rattle.run_cases.proofs.run_next.Tie as tie
-use Rattle.run_cases.proofs.run_next.Reads as reads
-use Rattle.run_cases.proofs.run_next.Lts as lts
-use Rattle.run_cases.proofs.read_line.Reads as read-line-reads
-use Rattle.run_cases.proofs.run_case.Reads as run-case-reads
 
 -- src/main.rt:72:27
 slice-aggregate-read-line : tie.Need-slice-aggregate-read-line

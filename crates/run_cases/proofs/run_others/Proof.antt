@@ -1,11 +1,8 @@
 use borrow.Author.Needs.{needs}
-use Prim.Native.Nat.{_-_, _≤_}
+use Prim.Native.Nat.{_-_}
 use native.Mathlib.Omega.{arith}
 use Rattle.run_cases.proofs.run_others.Statement.{statement}
 use Rattle.run_cases.proofs.run_others.Tie as tie
-use Rattle.run_cases.proofs.run_others.Reads as reads
-use Rattle.run_cases.proofs.run_others.Lts as lts
-use Rattle.run_cases.proofs.run_next.Reads as run-next-reads
 
 abbrev Inv-loop : tie.InvT-loop
 Inv-loop fd left₀ left = Unit {0}

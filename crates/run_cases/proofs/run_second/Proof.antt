@@ -5,12 +5,6 @@ use Rattle.buffer.proofs.Writing.{kept}
 use borrow.Author.Needs.{needs}
 use Rattle.run_cases.proofs.run_second.Statement.{statement}
 use Rattle.run_cases.proofs.run_second.Tie as tie
-use Rattle.run_cases.proofs.run_second.Reads as reads
-use Rattle.run_cases.proofs.run_second.Lts as lts
-use Rattle.case_lines.proofs.bytes.Reads as bytes-reads
-use Rattle.case_lines.proofs.field.Reads as field-reads
-use Rattle.run_cases.proofs.least.Reads as least-reads
-use Rattle.run_cases.proofs.run_check.Reads as run-check-reads
 
 -- src/main.rt:203:32
 field-requires : tie.Need-field-requires

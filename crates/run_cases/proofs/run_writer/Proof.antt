@@ -4,13 +4,6 @@ use lib.Seq.{length-take-le}
 use borrow.Author.Needs.{needs}
 use Rattle.run_cases.proofs.run_writer.Statement.{statement}
 use Rattle.run_cases.proofs.run_writer.Tie as tie
-use Rattle.run_cases.proofs.run_writer.Reads as reads
-use Rattle.run_cases.proofs.run_writer.Lts as lts
-use Rattle.case_lines.proofs.field.Reads as field-reads
-use Rattle.check.proofs.same.Reads as same-reads
-use Rattle.run_cases.proofs.least.Reads as least-reads
-use Rattle.run_cases.proofs.run_form.Reads as run-form-reads
-use Rattle.run_cases.proofs.run_mel.Reads as run-mel-reads
 
 -- src/main.rt:191:9
 least-requires : tie.Need-least-requires

@@ -1,12 +1,8 @@
 use mathlib.Core.Path.{sym}
-use native.Mathlib.Omega.{arith}
 use lib.Seq.{length-take-le}
 use borrow.Author.Needs.{needs}
 use Rattle.run_cases.proofs.say_front.Statement.{statement}
 use Rattle.run_cases.proofs.say_front.Tie as tie
-use Rattle.run_cases.proofs.say_front.Reads as reads
-use Rattle.run_cases.proofs.say_front.Lts as lts
-use Rattle.run_cases.proofs.say_text.Reads as say-text-reads
 
 -- src/main.rt:108:18
 slice-aggregate-say-text : tie.Need-slice-aggregate-say-text

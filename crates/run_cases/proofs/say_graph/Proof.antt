@@ -1,16 +1,8 @@
 use borrow.Author.Needs.{needs}
 use Prim.Native.Nat.{_-_, _≤_}
 use native.Mathlib.Omega.{arith}
-use lib.ListN.{length}
 use Rattle.run_cases.proofs.say_graph.Statement.{statement}
 use Rattle.run_cases.proofs.say_graph.Tie as tie
-use Rattle.run_cases.proofs.say_graph.Reads as reads
-use Rattle.run_cases.proofs.say_graph.Lts as lts
-use Rattle.run_cases.proofs.least.Reads as least-reads
-use Rattle.run_cases.proofs.say.Reads as say-reads
-use Rattle.run_cases.proofs.say_number.Reads as say-number-reads
-use Rattle.run_cases.proofs.wide_row.Reads as wide-row-reads
-use Rattle.io.proofs.print_hex.Reads as print-hex-reads
 
 abbrev Inv-loop : tie.InvT-loop
 Inv-loop n rows i₀ t6 t7 i = i ≤ n

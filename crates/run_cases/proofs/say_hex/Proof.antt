@@ -1,13 +1,9 @@
 use borrow.Author.Needs.{needs}
-use Prim.Native.Nat.{_-_, _≤_}
+use Prim.Native.Nat.{_-_}
 use native.Mathlib.Omega.{arith}
 use lib.ListN.{length}
 use Rattle.run_cases.proofs.say_hex.Statement.{statement}
 use Rattle.run_cases.proofs.say_hex.Tie as tie
-use Rattle.run_cases.proofs.say_hex.Reads as reads
-use Rattle.run_cases.proofs.say_hex.Lts as lts
-use Rattle.run_cases.proofs.wide.Reads as wide-reads
-use Rattle.io.proofs.print_hex.Reads as print-hex-reads
 
 abbrev Inv-loop : tie.InvT-loop
 Inv-loop bytes i₀ i = Unit {0}

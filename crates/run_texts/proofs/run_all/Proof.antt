@@ -3,10 +3,6 @@ use lib.ListN.{length}
 use borrow.Author.Needs.{needs}
 use Rattle.run_texts.proofs.run_all.Statement.{statement}
 use Rattle.run_texts.proofs.run_all.Tie as tie
-use Rattle.run_texts.proofs.run_all.Reads as reads
-use Rattle.run_texts.proofs.run_all.Lts as lts
-use Rattle.case_lines.proofs.find.Reads as find-reads
-use Rattle.run_texts.proofs.run_line.Reads as run-line-reads
 
 abbrev Inv-loop : tie.InvT-loop
 Inv-loop s at₀ at = Unit {0}

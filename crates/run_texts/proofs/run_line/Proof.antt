@@ -6,12 +6,6 @@ use Rattle.buffer.proofs.Writing.{kept}
 use borrow.Author.Needs.{needs}
 use Rattle.run_texts.proofs.run_line.Statement.{statement}
 use Rattle.run_texts.proofs.run_line.Tie as tie
-use Rattle.run_texts.proofs.run_line.Reads as reads
-use Rattle.run_texts.proofs.run_line.Lts as lts
-use Rattle.case_lines.proofs.bytes.Reads as bytes-reads
-use Rattle.case_lines.proofs.field.Reads as field-reads
-use Rattle.case_lines.proofs.number.Reads as number-reads
-use Rattle.run_texts.proofs.print_text.Reads as print-text-reads
 
 -- src/main.rt:32:27
 field-requires : tie.Need-field-requires

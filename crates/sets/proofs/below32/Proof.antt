@@ -7,8 +7,6 @@ use Rattle.sets.proofs.Membership.{shl-single}
 use borrow.Author.Needs.{needs}
 use Rattle.sets.proofs.below32.Statement.{statement}
 use Rattle.sets.proofs.below32.Tie as tie
-use Rattle.sets.proofs.below32.Reads as reads
-use Rattle.sets.proofs.below32.Lts as lts
 
 cast-result : tie.Need-cast-result
 cast-result c = search needs

@@ -2,8 +2,6 @@ use mathlib.Core.Path.{refl}
 use Rattle.sets.specs.Sets.{subset}
 use Rattle.sets.proofs.subset32.Statement.{statement}
 use Rattle.sets.proofs.subset32.Tie as tie
-use Rattle.sets.proofs.subset32.Reads as reads
-use Rattle.sets.proofs.subset32.Lts as lts
 
 returns : tie.Need-returns
 unfolding subset
