@@ -204,7 +204,7 @@ fn lines() -> Vec<Line> {
         more(operation, "version 2, ground sets grow", input(&growing(nested(32)), None, 1 << 16));
     }
     let without = Parts::without_form(32).knowing(&[]);
-    for operation in [&READ, &ORDER, &FORM, &MEL] {
+    for operation in [&READ, &ORDER, &AFTER, &FORM, &MEL] {
         more(operation, "version 2, without a form", input(&without, None, 1 << 16));
     }
     let longest = Parts::longest_record();
