@@ -7,7 +7,7 @@ use native.Mathlib.Omega.{arith}
 use lib.Dec.{leb}
 use lib.ListN.{getD}
 use Rattle.sets.specs.Sets.{goalLimit}
-use Rattle.graph.specs.Graph.{edgeless, goalsOf, rowsOf}
+use Rattle.graph.specs.Graph.{edgeless, goalsOf}
 use Rattle.graph.specs.declared.Graph.{Graph}
 use Rattle.graph.proofs.Rows.{row-at}
 use Rattle.record_fields.specs.Fields.{goalCount}
@@ -23,7 +23,7 @@ use Rattle.order.specs.Order.{before}
 use Rattle.annotator.specs.declared.ReadAnswer.{ReadAnswer}
 use Rattle.annotator.specs.declared.ReadAnswer.the-variants.{Accepted, Refused}
 use Rattle.annotator.specs.Answers.{readOutcome, read, orderGraph}
-use Rattle.lfj.specs.Words.{refusalWord, word, after, afterWord}
+use Rattle.lfj.specs.Words.{refusalWord, word, after, afterWord, filled}
 
 module _ (b : List ℕ) where
   -- an accepted record was read without a refusal, and gives its goal count
@@ -47,17 +47,31 @@ module _ (b : List ℕ) where
   after-outside g f t h = h ∙ ap (λ (x : Outcome ℕ). word (λ m. m) x) (fails 14 0 _ t ∙ read-fine b _ refl f)
 
   -- the row of a goal is the set of the goals that it is before
-  pub after-row : {x : Graph} {w : ℕ} (g : ℕ) → reading b ≡ Fine → x ≡ orderGraph b → leb 1 g && leb g (goalCount b) ≡ true
-      → w ≡ getD (x .rows) (g - 1) 0 → w ≡ afterWord (after b g)
-  unfolding afterWord after orderGraph Order.order
-  after-row {x} {w} g f e t h =
+  pub row-is : (g : ℕ) → reading b ≡ Fine → leb 1 g && leb g (goalCount b) ≡ true → getD (Order.order b .rows) (g - 1) 0 ≡ goalsOf (goalCount b) (before b g)
+  unfolding Order.order
+  row-is g f t =
       let low = between-low 1 (goalCount b) g t in
       let high = between-high 1 (goalCount b) g t in
       let most = fine-well-formed b f .goals-to in
-      let order : orderGraph b ≡ Order.order b = sym (ap (λ (o : Outcome Graph). values (edgeless 0) o .value) (read-fine b _ refl f)) in
-      let rows : x .rows ≡ rowsOf goalLimit (goalCount b) (before b) = ap (λ (y : Graph). y .rows) (e ∙ order) in
       let i : suc (g - 1) ≡ g = omega (arith, low) in
-      let row : w ≡ goalsOf (goalCount b) (before b g) =
-      h ∙ ap (λ (l : List ℕ). getD l (g - 1) 0) rows ∙ row-at goalLimit (goalCount b) (before b) (g - 1) (omega (arith, low, high, most)) (omega (arith, low, high))
-      ∙ ap (λ (k : ℕ). goalsOf (goalCount b) (before b k)) i in
-      row ∙ ap (λ (y : Outcome ℕ). word (λ m. m) y) (holds 14 0 _ t ∙ read-fine b _ refl f)
+      row-at goalLimit (goalCount b) (before b) (g - 1) (omega (arith, low, high, most)) (omega (arith, low, high)) ∙ ap (λ (k : ℕ). goalsOf (goalCount b) (before b k)) i
+
+  after-word : (g : ℕ) → reading b ≡ Fine → leb 1 g && leb g (goalCount b) ≡ true → goalsOf (goalCount b) (before b g) ≡ afterWord (after b g)
+  unfolding afterWord after
+  after-word g f t = ap (λ (y : Outcome ℕ). word (λ m. m) y) (holds 14 0 _ t ∙ read-fine b _ refl f)
+
+  -- the graph of an accepted record
+  pub graph-is : {x : Graph} → reading b ≡ Fine → x ≡ orderGraph b → x ≡ Order.order b
+  unfolding orderGraph
+  graph-is f e = e ∙ sym (ap (λ (o : Outcome Graph). values (edgeless 0) o .value) (read-fine b _ refl f))
+
+  pub after-row : {x : Graph} {w : ℕ} (g : ℕ) → reading b ≡ Fine → x ≡ orderGraph b → leb 1 g && leb g (goalCount b) ≡ true
+      → w ≡ getD (x .rows) (g - 1) 0 → w ≡ afterWord (after b g)
+  after-row {x} {w} g f e t h = h ∙ ap (λ (y : Graph). getD (y .rows) (g - 1) 0) (graph-is f e) ∙ row-is g f t ∙ after-word g f t
+
+  -- so `lfj_order` and `lfj_after` say the same: row g - 1 of the filled array is the set of goal g
+  pub order-after : (was : List ℕ) (g : ℕ) → reading b ≡ Fine → leb 1 g && leb g (goalCount b) ≡ true
+      → getD (filled b (Order.order b .rows) was) (g - 1) 0 ≡ afterWord (after b g)
+  unfolding filled
+  order-after was g f t =
+      ap (λ (o : Outcome (List ℕ)). getD (values was o .value) (g - 1) 0) (sym (read-fine b (accepted (Order.order b .rows)) refl f)) ∙ row-is g f t ∙ after-word g f t

@@ -15,7 +15,7 @@ use lib.Pow.{pow-mono}
 use Rattle.graph.specs.Graph.{goalsOf}
 use Rattle.graph.proofs.Rows.{goals-lt}
 use mathlib.Core.Logic.{⊎-elim}
-use Rattle.record_fields.specs.Fields.{goalCount, goalPlace, textPlace}
+use Rattle.record_fields.specs.Fields.{goalCount, varCount, goalPlace, textPlace}
 use Rattle.record_fields.proofs.Facts.{length-between}
 use Rattle.record_rules.specs.declared.Refusal.{Refusal}
 use Rattle.record_rules.specs.declared.Reading.{Reading}
@@ -23,7 +23,7 @@ use Rattle.record_rules.specs.declared.Reading.the-variants.{Fine, Refused as U
 use Rattle.record_rules.specs.Reading.{reading}
 use Rattle.record_rules.specs.Outcome.{Outcome, refused, accepted, values}
 use Rattle.record_rules.proofs.Must.{between-low, between-high, between-in}
-use Rattle.record_rules.proofs.Outcomes.{All, all-refused, all-accepted, all-read, all-only, all-next, all-size, by-reading, holds, fails}
+use Rattle.record_rules.proofs.Outcomes.{All, all-refused, all-accepted, all-read, all-only, all-next, all-size, by-reading, holds, fails, number-zero}
 use Rattle.record.specs.WellFormed.{WellFormed}
 use Rattle.record.specs.Limits.{Bytes}
 use Rattle.record.proofs.WellFormed.{fine-well-formed, well-formed-fine}
@@ -46,7 +46,7 @@ use Rattle.mel.proofs.Short.{mel-short}
 use Rattle.annotator.specs.declared.Span.{Span}
 use Rattle.annotator.specs.Answers.{read, ofGoal, goalText, noSpan, check}
 use Rattle.annotator.proofs.Cases.{numbers}
-use Rattle.lfj.specs.Words.{after, readWord, afterWord, formWord, melWord, textWord, verdictWord, checkWord}
+use Rattle.lfj.specs.Words.{after, variables, readWord, afterWord, formWord, melWord, textWord, verdictWord, checkWord}
 use Rattle.lfj.specs.Fits.{PlacesFit, ValuesFit, NumbersSay, ZeroAccepted}
 use Rattle.lfj.proofs.Encoding.{form-length, mel-length, number-says, form-number}
 
@@ -71,6 +71,10 @@ module _ (b : List ℕ) (bytes : Bytes b) where
   read-fits : Fit (λ n. Unit {0}) (read b)
   unfolding read
   read-fits = all-read (λ k p. Small p) (λ n. Unit {0}) b (accepted (goalCount b)) limit (λ e. tt)
+
+  variables-fits : Fit (λ n. Unit {0}) (variables b)
+  unfolding variables
+  variables-fits = all-read (λ k p. Small p) (λ n. Unit {0}) b (accepted (varCount b)) limit (λ e. tt)
 
   after-fits : (g : ℕ) → Fit (λ m. Unit {0}) (after b g)
   unfolding after
@@ -157,6 +161,7 @@ module _ (b : List ℕ) (bytes : Bytes b) where
   places-fit =
       record {
         of-read = λ k p. all-refused _ _ read-fits;
+        of-variables = λ k p. all-refused _ _ variables-fits;
         of-after = λ g k p. all-refused _ _ (after-fits g);
         of-form = λ buf k p. all-refused _ _ (form-fits buf);
         of-length = λ k p. all-refused _ _ length-fits;
@@ -193,6 +198,10 @@ module _ (b : List ℕ) where
   unfolding read
   read-low = all-read (λ k p. Unit {0}) (λ n. n < 2 ^ 56) b (accepted (goalCount b)) (λ r e. tt) (λ e. omega (arith, fine-well-formed b e .goals-to))
 
+  variables-low : Low (λ n. n) (variables b)
+  unfolding variables
+  variables-low = all-read (λ k p. Unit {0}) (λ n. n < 2 ^ 56) b (accepted (varCount b)) (λ r e. tt) (λ e. omega (arith, fine-well-formed b e .vars-to))
+
   after-low : (g : ℕ) → Low (λ m. m) (after b g)
   unfolding after
   after-low g =
@@ -205,6 +214,7 @@ module _ (b : List ℕ) where
   numbers-say =
       record {
         of-read = number-says (λ n. n) 0 (read b) read-low;
+        of-variables = number-says (λ n. n) 0 (variables b) variables-low;
         of-after = λ g. number-says (λ m. m) 0 (after b g) (after-low g);
         of-form = λ buf. form-number (F.formAnswer b buf) (F.shown b);
         of-length = form-number (F.formLength b) (F.shown b);
@@ -214,6 +224,12 @@ module _ (b : List ℕ) where
       }
 
   -- ---- accepted
+  -- a refusal of reading has a number
+  variables-some : All (λ k p. 1 ≤ k) (λ n. Unit {0}) (variables b)
+  unfolding variables
+  variables-some =
+      all-read (λ k p. 1 ≤ k) (λ n. Unit {0}) b (accepted (varCount b)) (λ r e. ⊎-elim (λ a. a .0) (λ a. omega (arith, a .0)) (refusal-number b r e)) (λ e. tt)
+
   after-accepted : (g : ℕ) → (values 0 (after b g) .number ≡ 0) ↔ (WellFormed b × (1 ≤ g) × (g ≤ goalCount b))
   unfolding after
   after-accepted g = by-reading b _ (λ o. (values 0 o .number ≡ 0) ↔ (WellFormed b × (1 ≤ g) × (g ≤ n))) turned (λ e. by-range (fine-well-formed b e) (leb 1 g && leb g n) refl)
@@ -247,6 +263,7 @@ zero-accepted b =
     let n = numbers b in
     record {
       of-read = told-zero (s .of-read) (n .of-read);
+      of-variables = told-zero (s .of-variables) (number-zero 0 (variables b) (λ k p. all-refused (λ k p. 1 ≤ k) (λ n. Unit {0}) (variables-some b)));
       of-after = λ g. told-zero (s .of-after g) (after-accepted b g);
       of-form = λ buf. told-zero (s .of-form buf) (n .of-form buf);
       of-length = told-zero (s .of-length) (n .of-length);

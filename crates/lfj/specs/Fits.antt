@@ -13,11 +13,12 @@ use Rattle.form.specs.Form.{formAnswer, formLength, shown}
 use Rattle.mel.specs.Annotation.{melAnswer}
 use Rattle.annotator.specs.declared.Span.{Span}
 use Rattle.annotator.specs.Answers.{read, goalText, noSpan, check}
-use Rattle.lfj.specs.Words.{after, readWord, afterWord, formWord, melWord, textWord, checkWord}
+use Rattle.lfj.specs.Words.{after, variables, readWord, afterWord, formWord, melWord, textWord, checkWord}
 
 -- the place of every refusal
 pub record PlacesFit (b : List ℕ) : Type 0 where
   pub of-read : (k p : ℕ) → read b ≡ refused k p → p < 2 ^ 32
+  pub of-variables : (k p : ℕ) → variables b ≡ refused k p → p < 2 ^ 32
   pub of-after : (g k p : ℕ) → after b g ≡ refused k p → p < 2 ^ 32
   pub of-form : (buf : List ℕ) (k p : ℕ) → formAnswer b buf ≡ refused k p → p < 2 ^ 32
   pub of-length : (k p : ℕ) → formLength b ≡ refused k p → p < 2 ^ 32
@@ -37,6 +38,7 @@ pub record ValuesFit (b : List ℕ) : Type 0 where
 -- bits 56 to 63 are the refusal's number, 0 if accepted
 pub record NumbersSay (b : List ℕ) : Type 0 where
   pub of-read : readWord (read b) / 2 ^ 56 ≡ values 0 (read b) .number
+  pub of-variables : readWord (variables b) / 2 ^ 56 ≡ values 0 (variables b) .number
   pub of-after : (g : ℕ) → afterWord (after b g) / 2 ^ 56 ≡ values 0 (after b g) .number
   pub of-form : (buf : List ℕ) → formWord (formAnswer b buf) (shown b) / 2 ^ 56 ≡ values 0 (formAnswer b buf) .number
   pub of-length : formWord (formLength b) (shown b) / 2 ^ 56 ≡ values 0 (formLength b) .number
@@ -47,6 +49,7 @@ pub record NumbersSay (b : List ℕ) : Type 0 where
 -- so these bits are 0 exactly if the call is accepted; for the goals after a goal, exactly if the record is well formed and has the goal
 pub record ZeroAccepted (b : List ℕ) : Type 0 where
   pub of-read : (readWord (read b) / 2 ^ 56 ≡ 0) ↔ Accepted (read b)
+  pub of-variables : (readWord (variables b) / 2 ^ 56 ≡ 0) ↔ Accepted (variables b)
   pub of-after : (g : ℕ) → (afterWord (after b g) / 2 ^ 56 ≡ 0) ↔ (WellFormed b × (1 ≤ g) × (g ≤ goalCount b))
   pub of-form : (buf : List ℕ) → (formWord (formAnswer b buf) (shown b) / 2 ^ 56 ≡ 0) ↔ Accepted (formAnswer b buf)
   pub of-length : (formWord (formLength b) (shown b) / 2 ^ 56 ≡ 0) ↔ Accepted (formLength b)

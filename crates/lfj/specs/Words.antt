@@ -5,13 +5,17 @@ use mathlib.Core.List.{List}
 use mathlib.Core.Option.{Option, none, some}
 use Prim.Native.Nat.{ℕ, _+_, _*_, _%_, _^_}
 use Rattle.graph.specs.Graph.{goalsOf}
-use Rattle.record_fields.specs.Fields.{goalCount}
-use Rattle.record_rules.specs.Outcome.{Outcome, refused, accepted, readThen}
+use Rattle.record_fields.specs.Fields.{goalCount, varCount}
+use Rattle.record_rules.specs.Outcome.{Outcome, refused, accepted, readThen, values}
 use Rattle.order.specs.Order.{before}
 use Rattle.expression.specs.Search.{Four}
 use Rattle.expression_grammar.specs.Check.{Verdict, same, differs}
 use Rattle.annotator.specs.declared.Span.{Span}
 use Rattle.annotator.specs.Answers.{ofGoal}
+
+-- `lfj_version`: 1.3.0 as major, minor and patch, two digits each. The minor is the number of change requests that have landed.
+abbrev pub version : ℕ
+version = 10300
 
 -- The number at bits 56 to 63, the place at bits 0 to 31: no place has more bits, whatever the record's length, and no length (specs/Fits.antt).
 unfoldable pub refusalWord : ℕ → ℕ → ℕ
@@ -57,3 +61,12 @@ verdictWord (differs i j) = i % 2 ^ 8 + j % 2 ^ 8 * 2 ^ 8
 
 unfoldable pub checkWord : Outcome Verdict → ℕ
 checkWord o = word verdictWord o
+
+-- ---- What is lent to be filled whole: `lfj_order`, `lfj_goal_sets`, `lfj_ground_sets`, `lfj_ticks`, `lfj_listed`, `lfj_head`.
+-- afterwards it is x; with a refusal of reading, the only ones of these functions, it is as it was
+unfoldable pub filled : {A : Type 0} → List ℕ → A → A → A
+filled b x was = values was (readThen b (accepted x)) .value
+
+-- `lfj_listed`, `lfj_head`: the variable count. The other four answer the goal count, as `lfj_read` does.
+unfoldable pub variables : List ℕ → Outcome ℕ
+variables b = readThen b (accepted (varCount b))

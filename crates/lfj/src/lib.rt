@@ -7,17 +7,32 @@ use form::FormAnswer;
 use form_first_n::Four;
 use graph::Graph;
 use order_compare::Verdict;
+use record_rules::Reading;
 use record_rules::Refusal;
 ghost use mathlib.Core.Path.{_≡_};
 ghost use Prim.Native.Nat.{_%_, _^_};
+ghost use Rattle.sets.specs.Sets.{goalLimit, variableLimit};
+ghost use Rattle.record_fields.specs.Fields.{headSet};
+ghost use Rattle.order.specs.Order.{order};
 ghost use Rattle.order_compare.specs.Verdicts.{verdictOf};
 ghost use mathlib.Core.Option.{some};
 ghost use Rattle.record_rules.specs.Outcome.{refused};
 ghost use Rattle.form_first_n.specs.FirstN.{four};
+ghost use Rattle.clause.specs.Clause as C;
 ghost use Rattle.form.specs.Form as F;
 ghost use Rattle.mel.specs.Annotation as M;
 ghost use Rattle.annotator.specs.Answers as P;
 ghost use Rattle.lfj.specs.Words as W;
+
+// The version of this interface: major, minor, the number of change requests that have landed, and patch, two digits each.
+const VERSION: u32 = 10300;
+
+#[no_mangle]
+pub extern "C" fn lfj_version() -> u32
+    ensures { λ r. ⌜ r ≡ W.version ⌝ }
+{
+    VERSION
+}
 
 // A length or a place, at bits 0 to 31.
 fn low(n: usize) -> u64
@@ -42,6 +57,25 @@ pub extern "C" fn lfj_read(bytes: &[u8]) -> u64
     match annotator::read(bytes) {
         ReadAnswer::Refused(r) => refused(r),
         ReadAnswer::Accepted(n) => n as u64,
+    }
+}
+
+// Fills `rows` with the whole order, row g - 1 with the goals that goal g is before: the goal count.
+#[no_mangle]
+pub extern "C" fn lfj_order(bytes: &[u8], rows: &mut [u32; Graph::MAX]) -> u64
+    ensures { λ r. ⌜ r ≡ W.readWord (P.read (now (bytes .entry))) ⌝ }
+    ensures { λ _. ⌜ now (rows .exit) ≡ W.filled (now (bytes .entry)) (order (now (bytes .entry)) .rows) (now (rows .entry)) ⌝ }
+{
+    let answer = annotator::order(bytes);
+    let reading = answer.reading;
+    match reading {
+        ReadAnswer::Refused(r) => refused(r),
+        ReadAnswer::Accepted(n) => {
+            let graph = answer.graph;
+            let closed = graph.rows;
+            *rows = closed;
+            n as u64
+        }
     }
 }
 
@@ -154,5 +188,90 @@ pub extern "C" fn lfj_check(bytes: &[u8], text: &[u8]) -> u64
     match annotator::check(bytes, text) {
         CheckAnswer::Rejected(r) => refused(r),
         CheckAnswer::Verdict(v) => verdict(v),
+    }
+}
+
+// The facts of a clause, for planners: each fills one lent array.
+
+// Fills `sets` with the variables of the goals, those of goal g at place g - 1: the goal count.
+#[no_mangle]
+pub extern "C" fn lfj_goal_sets(bytes: &[u8], sets: &mut [u64; Graph::MAX]) -> u64
+    ensures { λ r. ⌜ r ≡ W.readWord (P.read (now (bytes .entry))) ⌝ }
+    ensures { λ _. ⌜ now (sets .exit) ≡ W.filled (now (bytes .entry)) (C.goalSets goalLimit (now (bytes .entry))) (now (sets .entry)) ⌝ }
+{
+    match record::read(bytes) {
+        Reading::Refused(r) => refused(r),
+        Reading::Fine => {
+            let c = clause::decode(bytes);
+            let facts = c.sets;
+            *sets = facts;
+            c.n as u64
+        }
+    }
+}
+
+// Fills `sets` with the variables known ground at the goals, those at goal g at place g - 1: the goal count.
+#[no_mangle]
+pub extern "C" fn lfj_ground_sets(bytes: &[u8], sets: &mut [u64; Graph::MAX]) -> u64
+    ensures { λ r. ⌜ r ≡ W.readWord (P.read (now (bytes .entry))) ⌝ }
+    ensures { λ _. ⌜ now (sets .exit) ≡ W.filled (now (bytes .entry)) (C.groundSets goalLimit (now (bytes .entry))) (now (sets .entry)) ⌝ }
+{
+    match record::read(bytes) {
+        Reading::Refused(r) => refused(r),
+        Reading::Fine => {
+            let c = clause::decode(bytes);
+            let facts = c.grounds;
+            *sets = facts;
+            c.n as u64
+        }
+    }
+}
+
+// Fills `ticks` with the ticks of the goals, those of goal g at place g - 1: the goal count.
+#[no_mangle]
+pub extern "C" fn lfj_ticks(bytes: &[u8], ticks: &mut [u32; Graph::MAX]) -> u64
+    ensures { λ r. ⌜ r ≡ W.readWord (P.read (now (bytes .entry))) ⌝ }
+    ensures { λ _. ⌜ now (ticks .exit) ≡ W.filled (now (bytes .entry)) (C.goalTicks goalLimit (now (bytes .entry))) (now (ticks .entry)) ⌝ }
+{
+    match record::read(bytes) {
+        Reading::Refused(r) => refused(r),
+        Reading::Fine => {
+            let c = clause::decode(bytes);
+            let facts = c.ticks;
+            *ticks = facts;
+            c.n as u64
+        }
+    }
+}
+
+// Fills `rows` with the listed pairs, row x with the variables that are listed in a pair with x: the variable count.
+#[no_mangle]
+pub extern "C" fn lfj_listed(bytes: &[u8], rows: &mut [u64; sets::VARIABLES]) -> u64
+    ensures { λ r. ⌜ r ≡ W.readWord (W.variables (now (bytes .entry))) ⌝ }
+    ensures { λ _. ⌜ now (rows .exit) ≡ W.filled (now (bytes .entry)) (C.pairRows variableLimit (now (bytes .entry))) (now (rows .entry)) ⌝ }
+{
+    match record::read(bytes) {
+        Reading::Refused(r) => refused(r),
+        Reading::Fine => {
+            let c = clause::decode(bytes);
+            let facts = c.listed;
+            *rows = facts;
+            c.v as u64
+        }
+    }
+}
+
+// Puts the head's variables into `head`: the variable count.
+#[no_mangle]
+pub extern "C" fn lfj_head(bytes: &[u8], head: &mut u64) -> u64
+    ensures { λ r. ⌜ r ≡ W.readWord (W.variables (now (bytes .entry))) ⌝ }
+    ensures { λ _. ⌜ now (head .exit) ≡ W.filled (now (bytes .entry)) (headSet (now (bytes .entry))) (now (head .entry)) ⌝ }
+{
+    match record::read(bytes) {
+        Reading::Refused(r) => refused(r),
+        Reading::Fine => {
+            *head = record_fields::head_set(bytes);
+            record_fields::var_count(bytes) as u64
+        }
     }
 }
