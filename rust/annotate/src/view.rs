@@ -23,11 +23,11 @@ impl View {
         let clause = lfj::Clause::of(&record);
         let variables = clause.as_ref().map_or(0, |clause| clause.variables as usize);
         names.extend((names.len()..variables).map(|number| format!("v{number}")));
-        let goals = lfj::read(&record).unwrap_or(0);
+        let order = lfj::order(&record).map(|order| order.rows[..order.goals as usize].to_vec());
         View {
             name: name.to_string(),
             names,
-            order: (1..=goals).filter_map(|goal| lfj::after(&record, goal).ok()).collect(),
+            order: order.unwrap_or_default(),
             form: lfj::form_tree(&record),
             form_text: lfj::form_text(&record).unwrap_or_default(),
             mel: lfj::mel_text(&record).unwrap_or_default(),

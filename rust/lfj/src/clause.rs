@@ -1,6 +1,6 @@
 //! Clauses taken apart: what a record says, and records put together.
 
-use crate::{Refusal, variable_set};
+use crate::{Refusal, variable_set, variables};
 use std::fmt;
 
 /// A goal of a clause.
@@ -161,30 +161,26 @@ impl Clause {
 
     /// What an accepted record says.
     pub fn of(record: &[u8]) -> Result<Clause, Refusal> {
-        let goals = crate::read(record)?;
-        let number = |place: usize, length: usize| {
-            record[place..place + length].iter().fold(0, |number, byte| number << 8 | *byte as u64)
-        };
+        let facts = crate::facts(record)?;
         let mut clause = Clause {
-            version: number(3, 2) as u16,
-            head: number(8, 8),
-            ground: number(16, 8),
-            ..Clause::new(record[6])
+            version: u16::from_be_bytes([record[3], record[4]]),
+            head: facts.head,
+            ground: record[16..24].iter().fold(0, |set, byte| set << 8 | *byte as u64),
+            ..Clause::new(facts.variables as u8)
         };
-        let mut end = 24;
-        for goal in 1..=goals {
-            let text = crate::goal_text(record, goal)?;
-            let (ground, ticks) = match clause.version {
-                1 => (clause.ground, 1),
-                _ => (number(end + 8, 8), number(end + 16, 2) as u16),
-            };
-            let variables = number(end, 8);
-            let text_start = text.as_ptr() as usize - record.as_ptr() as usize;
-            end = text_start + text.len();
-            let text = text.iter().map(|byte| *byte as char).collect();
-            clause.goals.push(Goal { text, variables, ground, ticks });
+        for (goal, number) in (0..facts.goals as usize).zip(1..) {
+            let text = crate::goal_text(record, number)?;
+            clause.goals.push(Goal {
+                text: text.iter().map(|byte| *byte as char).collect(),
+                variables: facts.sets[goal],
+                ground: facts.ground[goal],
+                ticks: facts.ticks[goal] as u16,
+            });
         }
-        clause.independent = record[end..].chunks_exact(2).map(|pair| (pair[0], pair[1])).collect();
+        for (lower, listed) in (0..).zip(facts.listed) {
+            let higher = variables(listed).filter(|higher| *higher > lower);
+            clause.independent.extend(higher.map(|higher| (lower, higher)));
+        }
         Ok(clause)
     }
 }

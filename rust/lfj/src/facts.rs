@@ -39,3 +39,16 @@ pub struct Facts {
     /// Place x: the variables listed as independent of variable x.
     pub listed: [u64; VARIABLE_LIMIT],
 }
+
+impl Facts {
+    /// No goals and no variables.
+    pub(crate) const NONE: Facts = Facts {
+        goals: 0,
+        variables: 0,
+        head: 0,
+        sets: [0; GOAL_LIMIT],
+        ground: [0; GOAL_LIMIT],
+        ticks: [0; GOAL_LIMIT],
+        listed: [0; VARIABLE_LIMIT],
+    };
+}

@@ -122,6 +122,58 @@ pub fn after(record: &[u8], goal: u32) -> Result<u32, Refusal> {
     Ok(accepted(word)? as u32)
 }
 
+/// The whole order in one answer.
+///
+/// ```
+/// # let record = b"LFJ\0\x01\x03\x01\0\0\0\0\0\0\0\0\x01\0\0\0\0\0\0\0\0\
+/// #     \0\0\0\0\0\0\0\x01\x01a\0\0\0\0\0\0\0\0\x01b\0\0\0\0\0\0\0\x01\x01c";
+/// // Goals `a` over v0, `b` over nothing, `c` over v0.
+/// let order = lfj::order(record)?;
+/// assert_eq!(order.goals, 3);
+/// assert!(order.before(1, 3) && !order.before(1, 2) && !order.before(3, 1));
+/// # Ok::<(), lfj::Refusal>(())
+/// ```
+#[inline]
+pub fn order(record: &[u8]) -> Result<Order, Refusal> {
+    let mut rows = [0; GOAL_LIMIT];
+    // SAFETY: a slice's pointer is not null and its bytes may be read; `rows` is ours.
+    let word = unsafe { c::lfj_order(record.as_ptr(), record.len(), &mut rows) };
+    Ok(Order { goals: accepted(word)? as u32, rows })
+}
+
+/// The facts of a record in one answer.
+///
+/// ```
+/// let clause = lfj::Clause::new(2).head([0, 1]).goal_with_facts("half", [0], [], 40);
+/// let record = clause.goal_with_facts("join", [0, 1], [0], 900).independent(0, 1).record()?;
+/// let facts = lfj::facts(&record)?;
+/// assert_eq!((facts.goals, facts.variables, facts.head), (2, 2, 0b11));
+/// assert_eq!(facts.sets[..2], [0b01, 0b11]);
+/// assert_eq!(facts.ground[..2], [0b00, 0b01]);
+/// assert_eq!(facts.ticks[..2], [40, 900]);
+/// assert_eq!(facts.listed[..2], [0b10, 0b01]);
+/// # Ok::<(), lfj::ClauseError>(())
+/// ```
+pub fn facts(record: &[u8]) -> Result<Facts, Refusal> {
+    let mut facts = Facts::NONE;
+    let (place, length) = (record.as_ptr(), record.len());
+    // SAFETY: a slice's pointer is not null and its bytes may be read; `facts` is ours.
+    unsafe {
+        facts.variables = accepted(c::lfj_head(place, length, &mut facts.head))? as u32;
+        facts.goals = accepted(c::lfj_goal_sets(place, length, &mut facts.sets))? as u32;
+        accepted(c::lfj_ground_sets(place, length, &mut facts.ground))?;
+        accepted(c::lfj_ticks(place, length, &mut facts.ticks))?;
+        accepted(c::lfj_listed(place, length, &mut facts.listed))?;
+    }
+    Ok(facts)
+}
+
+/// The version of the library that is linked: 10300 for 1.3.0.
+pub fn version() -> u32 {
+    // SAFETY: it takes nothing and only answers.
+    unsafe { c::lfj_version() }
+}
+
 /// The goals of a set, lowest first.
 pub fn members(set: u32) -> impl Iterator<Item = u32> {
     (1..=32).filter(move |goal| set >> (goal - 1) & 1 == 1)
