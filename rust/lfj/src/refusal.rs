@@ -169,7 +169,7 @@ fn goal_text_half(place: usize, record: &[u8]) -> Option<String> {
 fn goal_use_half(place: usize, text: &[u8]) -> Option<String> {
     let numbers = |text: &[u8]| -> Vec<u32> {
         let words = text.split(|byte| !byte.is_ascii_digit());
-        words.filter_map(|word| str::from_utf8(word).ok()?.parse().ok()).collect()
+        words.filter_map(|word| std::str::from_utf8(word).ok()?.parse().ok()).collect()
     };
     if place == text.len() {
         let met = numbers(text);

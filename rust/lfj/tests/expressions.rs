@@ -42,7 +42,7 @@ fn refused_where_the_check_refuses() {
     let files = ["check-grammar.txt", "check-goals.txt", "check-order.txt"];
     let (mut read, mut refused) = (0, 0);
     for (record, text) in files.into_iter().flat_map(questions) {
-        let Ok(text) = str::from_utf8(&text) else { continue };
+        let Ok(text) = std::str::from_utf8(&text) else { continue };
         match (text.parse::<Expr>(), lfj::check(&record, text.as_bytes())) {
             (Err(error), Err(refusal)) if [15, 16].contains(&refusal.number) => {
                 assert_eq!(error.place, refusal.place as usize, "{text}");
