@@ -67,7 +67,8 @@ impl Command {
                 return Err(self.wrong(format!("one file, not both `{first}` and `{word}`")));
             }
         }
-        let file = file.ok_or_else(|| self.wrong("which file? - is standard input".into()))?;
+        let file =
+            file.ok_or_else(|| self.wrong("a file is missing; - is standard input".into()))?;
         Ok(Asked::Run(Call { command: self.name, file, options, out }))
     }
 }
@@ -80,7 +81,7 @@ pub fn asked(words: &[String]) -> Result<Asked, Failure> {
             "annotate: {words}; the commands are {names}\nannotate --help says more"
         ))
     };
-    let (first, rest) = words.split_first().ok_or_else(|| wrong("which command?".into()))?;
+    let (first, rest) = words.split_first().ok_or_else(|| wrong("a command is missing".into()))?;
     match first.as_str() {
         "--help" | "-h" => return Ok(Asked::Text(HELP)),
         "--version" => return Ok(Asked::Text(VERSION)),
