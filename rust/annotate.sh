@@ -74,10 +74,5 @@ done
 [ $skip = 0 ] || wrong "$command" "-o needs a file"
 [ $files = 1 ] || wrong "$command" "a file is missing; - is standard input"
 
-(
-    cd "$here/.."
-    . scripts/static-library.sh
-    cd rust
-    cargo build --release --offline --quiet --package annotate
-) >&2
+sh "$here/annotate/build.sh" </dev/null >&2 || exit 2
 exec "$here/target/release/annotate" "$@"

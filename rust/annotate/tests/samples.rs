@@ -2,6 +2,8 @@
 
 mod program;
 
+use annotate::hex;
+use annotate::input::RECORD_INPUT;
 use program::{Answer, annotate, samples, stdin};
 use std::fs;
 
@@ -35,6 +37,24 @@ fn sheets() {
             assert_eq!(stdin(&["sheet", "-"], &fs::read(file).unwrap()), wanted, "{name}.{end}");
         }
     }
+}
+
+/// The sheets of the conformance kit; no more of an input is read than the program reads.
+#[test]
+fn sheets_of_the_kit() {
+    let bytes = |word: &str| hex::unhex(if word == "-" { "" } else { word }).unwrap();
+    let mut cases = 0;
+    for file in fs::read_dir(samples().join("../kit/cases")).unwrap() {
+        for line in fs::read_to_string(file.unwrap().path()).unwrap().lines() {
+            let words = line.split_whitespace().skip_while(|word| *word != "sheet");
+            let [_, _, input, "=", "ok", sheet] = words.collect::<Vec<_>>()[..] else { continue };
+            let mut input = bytes(input);
+            input.truncate(RECORD_INPUT);
+            assert_eq!(annotate::sheet::sheet(&input), bytes(sheet), "{line}");
+            cases += 1;
+        }
+    }
+    assert!(cases > 50, "{cases} cases");
 }
 
 #[test]

@@ -70,19 +70,33 @@ fn help() {
     }
 }
 
-/// The script has no library to link here, so that nothing can be built.
+/// A script of the repository where it has no library to link, so that it can build nothing.
+fn script(file: &str, words: &[&str]) -> Answer {
+    let path = Path::new(env!("CARGO_MANIFEST_DIR")).join("../..").join(file);
+    let mut command = Command::new("sh");
+    command.arg(path).args(words).env("LFJ_LIB_DIR", "no such folder").stdin(Stdio::null());
+    Answer::of(command.output().unwrap())
+}
+
 #[test]
 fn the_script_answers_before_it_builds() {
-    let script = Path::new(env!("CARGO_MANIFEST_DIR")).join("../annotate.sh");
-    let ask = |words: &[&str]| {
-        let mut command = Command::new("sh");
-        command.arg(&script).args(words).env("LFJ_LIB_DIR", "no such folder");
-        Answer::of(command.stdin(Stdio::null()).output().unwrap())
-    };
     for words in WRONG.into_iter().chain(HELP) {
-        assert_eq!(ask(words), annotate(words), "{words:?}");
+        assert_eq!(script("rust/annotate.sh", words), annotate(words), "{words:?}");
     }
-    assert_ne!(ask(&["sheet", "a"]).status, 0);
+    assert_eq!(script("rust/annotate.sh", &["sheet", "a"]).status, 2);
+}
+
+#[test]
+fn so_do_those_of_the_samples() {
+    for file in ["samples/try.sh", "samples/make.sh"] {
+        assert_eq!(script(file, &["--version"]), annotate(&["--version"]));
+        assert_eq!(script(file, &["--help"]).status, 0);
+        for words in [&["--paint"][..], &["a", "b"]] {
+            let answer = script(file, words);
+            assert_eq!((answer.status, answer.out.len()), (2, 0), "{file} {words:?}");
+            assert!(answer.err.starts_with(&format!("usage: {file} ")), "{}", answer.err);
+        }
+    }
 }
 
 #[test]
