@@ -17,7 +17,8 @@ pub struct Goal {
 }
 
 /// What a record says. The methods put one together; every field may also be set by hand, right
-/// or wrong.
+/// or wrong. Variables are numbered from 0; a method that is given one above 63 panics, since no
+/// set can hold it.
 ///
 /// ```
 /// use lfj::Clause;
