@@ -1,22 +1,30 @@
 #!/bin/sh
-# The sheet of a description of your own: samples/try.sh my-clause.txt
-# By the proved program target/bin/sheet if `rt check` has built it, else by the
-# hand-written annotator.
+# A clause of your own: samples/try.sh my-clause.txt
+# prints the names of its variables and its sheet, by the proved annotator. The file is a
+# description, a record or a record in hexadecimal; - is standard input.
 set -eu
+annotate=$(dirname "$0")/../rust/annotate.sh
+usage="usage: samples/try.sh FILE     a description (samples/README.md) or a record; - is standard input"
 if [ $# -ne 1 ]; then
-    echo "usage: samples/try.sh DESCRIPTION" >&2
+    echo "$usage" >&2
     exit 2
 fi
-top=$(dirname "$0")/..
-(cd "$top/rust" && cargo build --release --offline --quiet --package compare --bin record)
-record=$top/rust/target/release/record
-names=$("$record" --names "$1")
-if [ -n "$names" ]; then
-    echo "$names" | sed 's/^/# /'
+case $1 in
+-h | --help)
+    echo "$usage" || exit 2
+    exit 0
+    ;;
+--version) exec sh "$annotate" --version ;;
+-?*)
+    echo "$usage" >&2
+    exit 2
+    ;;
+esac
+status=0
+sheet=$(sh "$annotate" sheet --names "$1") || status=$?
+if [ -n "$sheet" ]; then
+    printf '%s\n' "$sheet" || exit 2
+    echo "# in words: rust/annotate.sh explain $1" || exit 2
+    [ $status -ne 0 ] || echo "# as a picture: rust/annotate.sh draw --text $1" || exit 2
 fi
-if [ -x "$top/target/bin/sheet" ]; then
-    "$record" "$1" | "$top/target/bin/sheet"
-else
-    echo "# by the hand-written annotator: target/bin/sheet is not built (rt check sheet)"
-    "$record" --sheet "$1"
-fi
+exit $status

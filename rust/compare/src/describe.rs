@@ -1,9 +1,8 @@
-//! Records from a description in plain text, and back. `samples/README.md` explains the
-//! lines.
+//! Records from a description in plain text, for the kit's cases of the samples.
+//! `samples/README.md` explains the lines.
 
 use crate::build::{Facts, Parts};
 use crate::record::{GOAL_TEXT_LIMIT, TICK_LIMIT};
-use std::fmt::Write;
 
 const KEYWORDS: &str = "version, variables, head, ground, goal, independent, byte, cut, more";
 /// What cannot name a variable, since it means something else beside names.
@@ -119,8 +118,7 @@ impl Reader {
                             self.fault(format!("variable {name} is named twice"));
                         } else if SIGNS.contains(&name.as_str()) {
                             self.fault(format!("a variable cannot be called {name}"));
-                        } else if let Some(("v", number)) = numbered(&name)
-                            && number != self.names.len()
+                        } else if matches!(numbered(&name), Some(("v", number)) if number != self.names.len())
                         {
                             let own = self.names.len();
                             self.fault(format!("{name} has number {own}, so MEL calls it v{own}"));
@@ -339,64 +337,4 @@ impl Reader {
         }
         Ok(Described { names: self.names, record })
     }
-}
-
-/// The variables of a set, three or more in a row as `v0..v2`.
-fn listed(set: u64) -> String {
-    let has = |x: u32| x < 64 && set >> x & 1 == 1;
-    let mut text = String::new();
-    let mut x = 0;
-    while x < 64 {
-        let row = (x..64).take_while(|y| has(*y)).count() as u32;
-        if row >= 3 {
-            let _ = write!(text, " v{x}..v{}", x + row - 1);
-            x += row;
-            continue;
-        }
-        if has(x) {
-            let _ = write!(text, " v{x}");
-        }
-        x += 1;
-    }
-    text
-}
-
-/// A record's description, variables being called v0, v1 and so on.
-pub fn write(parts: &Parts) -> String {
-    let mut text = String::new();
-    if !parts.facts.is_empty() {
-        text += "version 2\n";
-    }
-    if parts.variables > 0 {
-        let all = if parts.variables == 64 { u64::MAX } else { (1 << parts.variables) - 1 };
-        let _ = writeln!(text, "variables{}", listed(all));
-    }
-    if parts.head != 0 {
-        let _ = writeln!(text, "head{}", listed(parts.head));
-    }
-    if parts.ground != 0 {
-        let _ = writeln!(text, "ground{}", listed(parts.ground));
-    }
-    let mut ground = parts.ground;
-    for (at, (set, name)) in parts.goals.iter().enumerate() {
-        let _ = write!(text, "goal {}{}", String::from_utf8_lossy(name), listed(*set));
-        if let Some(facts) = parts.facts.get(at) {
-            if facts.ticks != 1 {
-                let _ = write!(text, " ticks {}", facts.ticks);
-            }
-            if facts.ground != ground {
-                let _ = write!(text, " ground{}", listed(facts.ground));
-            }
-            ground = facts.ground;
-        }
-        text.push('\n');
-    }
-    for lower in 0..64 {
-        let higher = parts.pairs.iter().filter(|pair| pair.0 == lower);
-        let higher = higher.fold(0u64, |set, pair| set | 1 << pair.1);
-        if higher != 0 {
-            let _ = writeln!(text, "independent v{lower} |{}", listed(higher));
-        }
-    }
-    text
 }

@@ -8,7 +8,7 @@
 //!
 //! Of each function: a pointer is not null, also where the length behind it is 0, and that
 //! many bytes may be read there; at `out` they may be written, and no other argument
-//! overlaps them.
+//! overlaps them. The same holds of the elements of `rows`, `head`, `sets` and `ticks`.
 
 unsafe extern "C" {
     /// The goal count.
@@ -25,4 +25,18 @@ unsafe extern "C" {
     pub fn lfj_goal_text(record: *const u8, n: usize, goal: u32) -> u64;
     /// 0 for the same order, else i at bits 0 to 7 and j at bits 8 to 15.
     pub fn lfj_check(record: *const u8, n: usize, text: *const u8, m: usize) -> u64;
+    /// The goal count. Row g - 1: the goals that wait for goal g.
+    pub fn lfj_order(record: *const u8, n: usize, rows: *mut [u32; 32]) -> u64;
+    /// The variable count; the head set at `head`.
+    pub fn lfj_head(record: *const u8, n: usize, head: *mut u64) -> u64;
+    /// The goal count. Place g - 1: the variables of goal g.
+    pub fn lfj_goal_sets(record: *const u8, n: usize, sets: *mut [u64; 32]) -> u64;
+    /// The goal count. Place g - 1: the variables known ground at goal g.
+    pub fn lfj_ground_sets(record: *const u8, n: usize, sets: *mut [u64; 32]) -> u64;
+    /// The goal count. Place g - 1: the ticks of goal g.
+    pub fn lfj_ticks(record: *const u8, n: usize, ticks: *mut [u32; 32]) -> u64;
+    /// The variable count. Place x: the variables listed as independent of variable x.
+    pub fn lfj_listed(record: *const u8, n: usize, rows: *mut [u64; 64]) -> u64;
+    /// The library's version, no answer word: major * 10000 + minor * 100 + patch.
+    pub fn lfj_version() -> u32;
 }

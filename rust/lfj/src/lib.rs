@@ -7,55 +7,70 @@
 //! this crate only lends it slices, which is all that the proof asks of a caller.
 //!
 //! ```
-//! # fn main() -> Result<(), lfj::Refusal> {
+//! use lfj::{Clause, Verdict};
+//!
+//! # fn main() -> Result<(), lfj::ClauseError> {
 //! // Three goals: `half` over v0, `edge` over v1 and v2, `join` over v0 and v2.
 //! // v0 and v1, v0 and v2 are known to be independent.
-//! let mut record = b"LFJ\x00\x01\x03\x03\x02\0\0\0\0\0\0\0\x03\0\0\0\0\0\0\0\0".to_vec();
-//! for (variables, text) in [(0b001u64, "half"), (0b110, "edge"), (0b101, "join")] {
-//!     record.extend(variables.to_be_bytes());
-//!     record.push(text.len() as u8);
-//!     record.extend(text.bytes());
-//! }
-//! record.extend([0, 1, 0, 2]);
+//! let clause = Clause::new(3).head([0, 1]);
+//! let clause = clause.goal("half", [0]).goal("edge", [1, 2]).goal("join", [0, 2]);
+//! let record = clause.independent(0, 1).independent(0, 2).record()?;
 //!
 //! assert_eq!(lfj::read(&record)?, 3);
 //! assert_eq!(lfj::form_text(&record)?, "(1&2),3");
 //! assert_eq!(lfj::mel_text(&record)?, "(1&2),3");
 //! assert_eq!(lfj::goal_text(&record, 2)?, b"edge");
-//! assert_eq!(lfj::check(&record, b"(2&1),3")?, lfj::Verdict::Same);
+//! assert_eq!(lfj::check(&record, b"(2&1),3")?, Verdict::Same);
 //! # Ok(())
 //! # }
+//! ```
+//!
+//! [`Clause`] puts records together and takes them apart, [`Expr`] is an expression as a tree.
+//! Errors have the words of `Display` for `Debug` too, so that a program prints them well from
+//! `main`:
+//!
+//! ```should_panic
+//! fn main() -> Result<(), lfj::Refusal> {
+//!     let form = lfj::form_text(b"LFJ")?;
+//!     println!("{form}"); // Error: the record has 3 bytes, fewer than the 24 of its header (refusal 1)
+//!     Ok(())
+//! }
 //! ```
 //!
 //! A record of version 2 says for each goal which variables are ground just left of it, and its
-//! ticks. Two goals are judged by the ground set at the earlier one:
-//!
-//! ```
-//! # fn main() -> Result<(), lfj::Refusal> {
-//! // Three goals over v0, which is ground from goal 2 on.
-//! let mut record = b"LFJ\x00\x02\x03\x01\x00\0\0\0\0\0\0\0\x01\0\0\0\0\0\0\0\0".to_vec();
-//! for (ground, ticks, text) in [(0u64, 12u16, "measure"), (1, 300, "left"), (1, 400, "right")] {
-//!     record.extend(1u64.to_be_bytes());
-//!     record.extend(ground.to_be_bytes());
-//!     record.extend(ticks.to_be_bytes());
-//!     record.push(text.len() as u8);
-//!     record.extend(text.bytes());
-//! }
-//! assert_eq!(lfj::form_text(&record)?, "1,(2&3)");
-//! # Ok(())
-//! # }
-//! ```
+//! ticks. Two goals are judged by the ground set at the earlier one.
 
 pub mod c;
+mod clause;
+mod expr;
+mod facts;
 mod refusal;
 
-pub use refusal::Refusal;
+pub use clause::{Clause, ClauseError, Goal};
+pub use expr::{Expr, ExprError, TEXT_LIMIT};
+pub use facts::{Facts, Order};
+pub use refusal::{Kind, Refusal};
 
 /// No record that is accepted is longer, in bytes.
 pub const RECORD_LIMIT: usize = 1910;
 
+/// The most goals of a clause.
+pub const GOAL_LIMIT: usize = 32;
+
+/// The most variables of a clause.
+pub const VARIABLE_LIMIT: usize = 64;
+
+/// The longest text of a goal, in bytes.
+pub const GOAL_TEXT_LIMIT: usize = 24;
+
+/// The most ticks of a goal; the least is 1.
+pub const TICK_LIMIT: u16 = 60_000;
+
 /// The longest fork-join expression in house form, in bytes.
 pub const FORM_LIMIT: usize = 146;
+
+/// No MEL annotation is longer, in bytes.
+pub const MEL_LIMIT: usize = 1_997_056;
 
 /// What [`check`] says of an expression.
 #[derive(Clone, Copy, PartialEq, Eq, Hash, Debug)]
@@ -107,9 +122,86 @@ pub fn after(record: &[u8], goal: u32) -> Result<u32, Refusal> {
     Ok(accepted(word)? as u32)
 }
 
+/// The whole order in one answer.
+///
+/// ```
+/// # let record = b"LFJ\0\x01\x03\x01\0\0\0\0\0\0\0\0\x01\0\0\0\0\0\0\0\0\
+/// #     \0\0\0\0\0\0\0\x01\x01a\0\0\0\0\0\0\0\0\x01b\0\0\0\0\0\0\0\x01\x01c";
+/// // Goals `a` over v0, `b` over nothing, `c` over v0.
+/// let order = lfj::order(record)?;
+/// assert_eq!(order.goals, 3);
+/// assert!(order.before(1, 3) && !order.before(1, 2) && !order.before(3, 1));
+/// # Ok::<(), lfj::Refusal>(())
+/// ```
+#[inline]
+pub fn order(record: &[u8]) -> Result<Order, Refusal> {
+    let mut rows = [0; GOAL_LIMIT];
+    // SAFETY: a slice's pointer is not null and its bytes may be read; `rows` is ours.
+    let word = unsafe { c::lfj_order(record.as_ptr(), record.len(), &mut rows) };
+    Ok(Order { goals: accepted(word)? as u32, rows })
+}
+
+/// The facts of a record in one answer.
+///
+/// ```
+/// let clause = lfj::Clause::new(2).head([0, 1]).goal_with_facts("half", [0], [], 40);
+/// let record = clause.goal_with_facts("join", [0, 1], [0], 900).independent(0, 1).record()?;
+/// let facts = lfj::facts(&record)?;
+/// assert_eq!((facts.goals, facts.variables, facts.head), (2, 2, 0b11));
+/// assert_eq!(facts.sets[..2], [0b01, 0b11]);
+/// assert_eq!(facts.ground[..2], [0b00, 0b01]);
+/// assert_eq!(facts.ticks[..2], [40, 900]);
+/// assert_eq!(facts.listed[..2], [0b10, 0b01]);
+/// # Ok::<(), lfj::ClauseError>(())
+/// ```
+pub fn facts(record: &[u8]) -> Result<Facts, Refusal> {
+    let mut facts = Facts::NONE;
+    let (place, length) = (record.as_ptr(), record.len());
+    // SAFETY: a slice's pointer is not null and its bytes may be read; `facts` is ours.
+    unsafe {
+        facts.variables = accepted(c::lfj_head(place, length, &mut facts.head))? as u32;
+        facts.goals = accepted(c::lfj_goal_sets(place, length, &mut facts.sets))? as u32;
+        accepted(c::lfj_ground_sets(place, length, &mut facts.ground))?;
+        accepted(c::lfj_ticks(place, length, &mut facts.ticks))?;
+        accepted(c::lfj_listed(place, length, &mut facts.listed))?;
+    }
+    Ok(facts)
+}
+
+/// The version of the library that is linked: 10300 for 1.3.0.
+pub fn version() -> u32 {
+    // SAFETY: it takes nothing and only answers.
+    unsafe { c::lfj_version() }
+}
+
 /// The goals of a set, lowest first.
 pub fn members(set: u32) -> impl Iterator<Item = u32> {
     (1..=32).filter(move |goal| set >> (goal - 1) & 1 == 1)
+}
+
+/// The variables of a set, lowest first.
+///
+/// ```
+/// assert!(lfj::variables(0b1010).eq([1, 3]));
+/// ```
+pub fn variables(set: u64) -> impl Iterator<Item = u8> {
+    (0..64).filter(move |variable| set >> variable & 1 == 1)
+}
+
+/// The set of these variables, variable x at bit x.
+///
+/// ```
+/// assert_eq!(lfj::variable_set([1, 3]), 0b1010);
+/// ```
+///
+/// # Panics
+///
+/// If a variable is above 63: no set can hold it.
+pub fn variable_set(variables: impl IntoIterator<Item = u8>) -> u64 {
+    variables.into_iter().fold(0, |set, variable| {
+        assert!(variable < 64, "a set has the variables 0 to 63, and {variable} is none of them");
+        set | 1 << variable
+    })
 }
 
 /// Writes the fork-join expression into the first bytes of `out`: its length. The other
@@ -140,6 +232,21 @@ pub fn form_text(record: &[u8]) -> Result<String, Refusal> {
     let mut out = [0; FORM_LIMIT];
     let length = form(record, &mut out)?;
     Ok(out[..length].iter().map(|byte| *byte as char).collect())
+}
+
+/// The fork-join expression as a tree. Refusal 13, as with [`form`].
+///
+/// ```
+/// # let record = b"LFJ\0\x01\x03\x01\0\0\0\0\0\0\0\0\x01\0\0\0\0\0\0\0\0\
+/// #     \0\0\0\0\0\0\0\x01\x01a\0\0\0\0\0\0\0\0\x01b\0\0\0\0\0\0\0\x01\x01c";
+/// use lfj::Expr::{Goal, Parallel, Sequence};
+/// // Goals `a` over v0, `b` over nothing, `c` over v0: the form is (1,3)&2.
+/// let tree = lfj::form_tree(record)?;
+/// assert_eq!(tree, Parallel(vec![Sequence(vec![Goal(1), Goal(3)]), Goal(2)]));
+/// # Ok::<(), lfj::Refusal>(())
+/// ```
+pub fn form_tree(record: &[u8]) -> Result<Expr, Refusal> {
+    Ok(form_text(record)?.parse().expect("a form is in the grammar"))
 }
 
 /// The length of the fork-join expression: a buffer of so many bytes suffices for [`form`], and

@@ -1,8 +1,10 @@
 //! Descriptions of records: what they give and how their faults are said.
 
-use compare::build::{Facts, Parts};
-use compare::describe;
-use compare::generate::{self, Random};
+use annotate::{describe, hex};
+use lfj::Clause;
+use std::collections::BTreeSet;
+use std::fs;
+use std::path::Path;
 
 fn faults(text: &str) -> Vec<(usize, String)> {
     describe::read(text).unwrap_err()
@@ -31,25 +33,40 @@ independent Z X
     let described = describe::read(text).unwrap();
     assert_eq!(described.names, ["X", "Y", "Z"]);
     assert_eq!(described.record.len(), 67);
-    let parts = Parts::of(&described.record).unwrap();
-    assert_eq!((parts.variables, parts.head, parts.ground), (3, 3, 0));
-    assert_eq!(parts.pairs, [(0, 1), (0, 2)]);
-    assert_eq!(parts.goals[1], (6, b"edge".to_vec()));
+    let clause = Clause::of(&described.record).unwrap();
+    assert_eq!((clause.variables, clause.head, clause.ground), (3, 3, 0));
+    assert_eq!(clause.independent, [(0, 1), (0, 2)]);
+    assert_eq!((clause.goals[1].variables, clause.goals[1].text.as_str()), (6, "edge"));
 }
 
+/// Every record that a case of the kit holds and that reading accepts.
 #[test]
 fn every_record_comes_back() {
-    let mut random = Random::new(5);
-    for _ in 0..500 {
-        let parts = generate::clause(&mut random);
-        let described = describe::read(&describe::write(&parts)).unwrap();
-        assert_eq!(Parts::of(&described.record), Ok(parts));
+    let folder = Path::new(env!("CARGO_MANIFEST_DIR")).join("../../kit/cases");
+    let mut records = BTreeSet::new();
+    for file in fs::read_dir(folder).unwrap() {
+        let text = fs::read_to_string(file.unwrap().path()).unwrap();
+        records.extend(text.split_whitespace().filter_map(|word| {
+            let record = hex::unhex(word.strip_prefix("4c464a")?).ok()?;
+            Some([b"LFJ", &record[..]].concat())
+        }));
     }
+    let mut versions = [0; 3];
+    for record in records {
+        let Ok(clause) = Clause::of(&record) else { continue };
+        let text = describe::write(&clause);
+        assert_eq!(describe::read(&text).unwrap().record, record, "{text}");
+        versions[clause.version as usize] += 1;
+    }
+    assert!(versions[1] > 500 && versions[2] > 100, "{versions:?}");
 }
 
 #[test]
 fn facts_at_goals() {
-    let parts = |text: &str| Parts::of(&describe::read(text).unwrap().record).unwrap();
+    let facts = |text: &str| -> Vec<(u64, u16)> {
+        let clause = Clause::of(&describe::read(text).unwrap().record).unwrap();
+        clause.goals.iter().map(|goal| (goal.ground, goal.ticks)).collect()
+    };
     let clause = "\
 variables X Y Z
 head X Y
@@ -59,17 +76,15 @@ goal b Y ground X Z
 goal c Z Y ground X Z Y ticks 60000
 goal d
 ";
-    let facts = |ground, ticks| Facts { ground, ticks };
-    let wide = parts(clause);
-    assert_eq!(wide.facts, [facts(1, 12), facts(5, 1), facts(7, 60_000), facts(7, 1)]);
-    assert_eq!(wide.goals[2], (6, b"c".to_vec()));
-    // The line `version 2` alone makes one too; in version 1 nothing is different from before.
-    assert_eq!(parts("goal a\nversion 2").facts, [facts(0, 1)]);
-    assert_eq!(parts("version 1\ngoal a").facts, []);
+    assert_eq!(facts(clause), [(1, 12), (5, 1), (7, 60_000), (7, 1)]);
+    // The line `version 2` alone makes one too, and a record of version 1 has the header's facts.
+    assert_eq!(facts("goal a\nversion 2"), [(0, 1)]);
+    assert_eq!(facts("version 1\nvariables X\nhead X\ngoal a\nground X"), [(1, 1)]);
+    assert_eq!(describe::read("goal a\nversion 2").unwrap().record.len(), 44);
     assert_eq!(describe::read("goal a").unwrap().record.len(), 34);
     assert_eq!(describe::read("goal a ticks 1").unwrap().record.len(), 44);
     // The header's ground set may stand behind the goals.
-    assert_eq!(parts("version 2\nvariables X\ngoal a\nhead X\nground X").facts, [facts(1, 1)]);
+    assert_eq!(facts("version 2\nvariables X\ngoal a\nhead X\nground X"), [(1, 1)]);
 }
 
 #[test]
@@ -123,6 +138,9 @@ fn faults_have_their_line() {
     assert_eq!(one("variables X\ngoal a\nindependent X X").0, 3);
     assert_eq!(one("variables X\ngoal a\nindependent X").0, 3);
     assert_eq!(one("variables X\nground X\ngoal a").0, 2);
+    assert_eq!(one("version 2\nvariables X\nground X\ngoal a").0, 3);
+    assert_eq!(one("variables X Y\ngoal a\nindependent X | Y | X").1, "one | is the most");
+    assert_eq!(one("variables v3..v1\ngoal a").0, 1);
     assert_eq!(one("variables v0..v64\ngoal a").1, "65 variables, 64 is the most");
     assert_eq!(one(&format!("goal {}", "x".repeat(25))).0, 1);
     assert!(describe::read(&format!("goal {}", "x".repeat(24))).is_ok());
@@ -132,6 +150,8 @@ fn faults_have_their_line() {
     assert_eq!(one("goal a\nbyte 5").0, 2);
     assert_eq!(one("goal a\nbyte 5 256").0, 2);
     assert_eq!(one("goal a\nbyte five 1").0, 2);
+    assert_eq!(one(&format!("goal {}", "x".repeat(300))).0, 1);
+    assert_eq!(one(&"goal a\n".repeat(300)).0, 33);
     // All faults are said at once.
     assert_eq!(faults("goal a X\ngoal b Y").len(), 2);
 }
