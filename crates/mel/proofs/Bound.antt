@@ -30,7 +30,7 @@ use Rattle.mel_text.proofs.Stages.{checks-masks, stages-one, stages-more, stage
 use Rattle.mel.proofs.Length.{Short, below-hundred, all-short, checks-length, goals-bound, arrow-length, none-text, mel-text}
 
 -- a set has no more members than the width
-members-width : (w i m : ℕ) → length (membersFrom w i m) ≤ w
+pub members-width : (w i m : ℕ) → length (membersFrom w i m) ≤ w
 unfolding membersFrom
 members-width zero i m = zero-le
 members-width (suc w) i m = go (has m i) (members-width w (suc i) m)
@@ -127,7 +127,7 @@ module _ (w head : ℕ) (sets grounds listed : List ℕ) (n : ℕ) where
         mul-le-mul-right v (no-more w 0 k vars (λ x e. kset-in p q x h e)),
       )
 
-  pairs-short : w ≤ 100 → (p q k : ℕ) (l : List ℕ) → All (λ x. x < 100) l → All Short (pairsOf w sets listed p q k l)
+  pub pairs-short : w ≤ 100 → (p q k : ℕ) (l : List ℕ) → All (λ x. x < 100) l → All Short (pairsOf w sets listed p q k l)
   unfolding pairsOf
   pairs-short u p q k [] a = tt
   pairs-short u p q k (x ∷ l) a =

@@ -1,6 +1,9 @@
 pub mod Length
 pub mod Bound
-pub mod Theorems
+pub mod Sizes
+pub mod PairCount
 pub mod Outcomes
 pub mod Record
+pub mod Limit
+pub mod Theorems
 pub mod Short

@@ -1,0 +1,117 @@
+-- No annotation of a well-formed record is longer than `melLimit`. A stage of one goal has no checks; one of k goals takes at most 15,509 bytes a goal, its comma counted.
+use mathlib.Core.Path.{_≡_, sym, ap}
+use mathlib.Core.Logic.{dite}
+use mathlib.Core.Bool.{true, false}
+use mathlib.Core.List.{List, [], _∷_, map}
+use Prim.Native.Nat.{ℕ, suc, _+_, _-_, _*_, _≤_, _<_}
+use native.Mathlib.Nat.{mul-le-mul-right}
+use native.Mathlib.Decide.{ℕ-discrete}
+use native.Mathlib.Omega.{arith}
+use lib.ListN.{length, take, length-append}
+use Rattle.sets.specs.Sets.{goalLimit, variableLimit, members}
+use Rattle.buffer.specs.Text.{nonEmpty, only}
+use Rattle.buffer.proofs.Decimal.{decimal-length}
+use Rattle.record_fields.specs.Fields.{goalCount, headSet}
+use Rattle.record.specs.WellFormed.{WellFormed}
+use Rattle.clause.specs.Clause.{goalSets, groundSets, pairRows}
+use Rattle.mel_stages.specs.Mel.{Check, Ground, checksFrom, checks, start}
+use Rattle.mel_stages.specs.Masks.{given}
+use Rattle.mel_stages.specs.Plain.{All}
+use Rattle.mel_stages.proofs.Stages.{by-stages, start-falls}
+use Rattle.mel_text.specs.CheckTexts.{groundsText, pairsText, pairsOf}
+use Rattle.mel_text.specs.StageTexts.{groundSet, pairSet, checksText, stageText, stagesText}
+use Rattle.mel_text.proofs.Lists.{checks-step, checks-none, item-step, ground-length}
+use Rattle.mel_text.proofs.Stages.{checks-parts, stages-one, stages-more, stage-parts, stage-one}
+use Rattle.mel.specs.Annotation.{mel}
+use Rattle.mel.specs.Limit.{melLimit}
+use Rattle.mel.proofs.Length.{below-hundred, checks-length, goals-bound, arrow-length, none-text, mel-text}
+use Rattle.mel.proofs.Bound.{members-width, pairs-short}
+use Rattle.mel.proofs.Sizes.{size}
+use Rattle.mel.proofs.PairCount.{pairs, pairs-half}
+use Rattle.mel.proofs.Record.{facts-text, facts-length}
+
+-- 12 bytes a ground check, its comma counted
+grounds-length : (l : List ℕ) → All (λ x. x < 100) l → length (checksFrom true (map Ground l)) ≤ 12 * length l
+grounds-length [] a = omega (arith, ap length (checks-none true))
+grounds-length (x ∷ l) a =
+    omega (arith, simp length-append at (ap length (item-step (Ground x) (map Ground l))), ground-length x, decimal-length 1 x (a .0), grounds-length l (a .1))
+
+-- the first check has no comma
+no-comma : (l : List Check) → length (checksFrom false l) ≤ length (checksFrom true l)
+unfolding only
+no-comma [] = omega (arith, ap length (checks-none false))
+no-comma (c ∷ l) = omega (arith, simp length-append at (ap length (checks-step false c l)), simp length-append at (ap length (checks-step true c l)))
+
+module _ (w head : ℕ) (sets grounds listed : List ℕ) (narrow : w ≤ 100) where
+  -- how many checks of each kind a stage has
+  abbrev grounds-of : ℕ → ℕ → ℕ
+  grounds-of p q = size w 0 (groundSet sets grounds p q)
+
+  abbrev pairs-of : ℕ → ℕ → ℕ
+  pairs-of p q = pairs w sets listed p q (pairSet head sets grounds p q) w 0
+
+  checks-limit : (p q : ℕ) → length (checksText w head sets grounds listed false p q) ≤ 12 * grounds-of p q + 15 * pairs-of p q
+  unfolding checksText groundsText pairsText pairs
+  checks-limit p q =
+      let g = groundSet sets grounds p q in
+      let k = pairSet head sets grounds p q in
+      omega (
+        arith,
+        no-comma (checks (given w head sets grounds listed) p q),
+        simp length-append at (ap length (checks-parts w head sets grounds listed p q)),
+        grounds-length (members w g) (below-hundred w 0 g (omega arith)),
+        checks-length true (pairsOf w sets listed p q k (members w k)) (pairs-short w head sets grounds listed 0 narrow p q k (members w k) (below-hundred w 0 k (omega arith))),
+      )
+
+  stage-limit : (p q : ℕ) → q < 100 → (q ≡ p + 1 → ⊥) → length (stageText w head sets grounds listed p q) ≤ 12 * grounds-of p q + 15 * pairs-of p q + 3 * (q - p) + 4
+  stage-limit p q h d =
+      omega (
+        arith,
+        simp length-append at (ap length (stage-parts w head sets grounds listed p q d)),
+        checks-limit p q,
+        goals-bound p q h,
+        arrow-length (nonEmpty (checksText w head sets grounds listed false p q)),
+      )
+
+module _ (head : ℕ) (sets grounds listed : List ℕ) where
+  abbrev w : ℕ
+  w = variableLimit
+
+  stage-most : (p q : ℕ) → p < q → q < 100 → 2 * length (stageText w head sets grounds listed p q) + 2 ≤ (q - p) * 31019
+  stage-most p q f h =
+      let k = pairSet head sets grounds p q in
+      let u = size w 0 k in
+      dite (ℕ-discrete q (p + 1))
+      (λ e. omega (arith, ap length (stage-one w head sets grounds listed p q e), decimal-length 1 q (omega arith)))
+      (λ d.
+      omega (
+        arith,
+        stage-limit w head sets grounds listed (omega arith) p q h d,
+        members-width w 0 (groundSet sets grounds p q),
+        pairs-half w sets listed p q k w 0 (omega arith),
+        members-width w 0 k,
+        mul-le-mul-right u (members-width w 0 k),
+      ))
+
+  stages-most : (q : ℕ) → q < 100 → 2 * length (stagesText w head sets grounds listed q) ≤ q * 31019
+  stages-most =
+      by-stages w head sets (λ q. q < 100 → 2 * length (stagesText w head sets grounds listed q) ≤ q * 31019) (λ h. omega (arith, none-text w head sets grounds listed)) (λ q l ih h.
+      let p = start w head sets q in
+      let f : p < q = start-falls w head sets q l in
+      dite (ℕ-discrete p 0)
+      (λ e. omega (arith, ap length (stages-one w head sets grounds listed q l e), stage-most p q f h))
+      (λ d. omega (arith, ih (omega arith), simp length-append at (ap length (stages-more w head sets grounds listed q l d)), stage-most p q f h)))
+
+pub limit : (b : List ℕ) → WellFormed b → length (mel b) ≤ melLimit
+limit b r =
+    let sets = take (goalCount b) (goalSets goalLimit b) in
+    let grounds = groundSets goalLimit b in
+    let listed = pairRows variableLimit b in
+    omega (
+      arith,
+      r .goals-to,
+      ap length (facts-text b (r .goals-to)),
+      facts-length b (r .goals-to),
+      ap length (mel-text variableLimit (headSet b) sets grounds listed),
+      stages-most (headSet b) sets grounds listed (length sets) (omega (arith, r .goals-to, facts-length b (r .goals-to))),
+    )
