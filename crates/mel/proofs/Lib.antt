@@ -1,7 +1,9 @@
 pub mod Length
 pub mod Bound
 pub mod Sizes
+pub mod GoalSums
 pub mod PairCount
+pub mod Candidates
 pub mod Outcomes
 pub mod Record
 pub mod Limit

@@ -1,4 +1,4 @@
--- No annotation of a well-formed record is longer than `melLimit`. A stage of one goal has no checks; one of k goals takes at most 15,509 bytes a goal, its comma counted.
+-- No annotation of a well-formed record is longer than `melLimit`. A stage of one goal has no checks; one of k goals takes at most 8,070 bytes a goal, its comma counted.
 use mathlib.Core.Path.{_≡_, sym, ap}
 use mathlib.Core.Logic.{dite}
 use mathlib.Core.Bool.{true, false}
@@ -27,7 +27,8 @@ use Rattle.mel.specs.Limit.{melLimit}
 use Rattle.mel.proofs.Length.{below-hundred, checks-length, goals-bound, arrow-length, none-text, mel-text}
 use Rattle.mel.proofs.Bound.{members-width, pairs-short}
 use Rattle.mel.proofs.Sizes.{size}
-use Rattle.mel.proofs.PairCount.{pairs, pairs-half}
+use Rattle.mel.proofs.PairCount.{pairs, pairs-most}
+use Rattle.mel.proofs.Candidates.{candidate-here, candidate-alone}
 use Rattle.mel.proofs.Record.{facts-text, facts-length}
 
 -- 12 bytes a ground check, its comma counted
@@ -77,7 +78,7 @@ module _ (head : ℕ) (sets grounds listed : List ℕ) where
   abbrev w : ℕ
   w = variableLimit
 
-  stage-most : (p q : ℕ) → p < q → q < 100 → 2 * length (stageText w head sets grounds listed p q) + 2 ≤ (q - p) * 31019
+  stage-most : (p q : ℕ) → p < q → q < 100 → 2 * length (stageText w head sets grounds listed p q) + 2 ≤ (q - p) * 16139
   stage-most p q f h =
       let k = pairSet head sets grounds p q in
       let u = size w 0 k in
@@ -88,14 +89,14 @@ module _ (head : ℕ) (sets grounds listed : List ℕ) where
         arith,
         stage-limit w head sets grounds listed (omega arith) p q h d,
         members-width w 0 (groundSet sets grounds p q),
-        pairs-half w sets listed p q k w 0 (omega arith),
+        pairs-most w sets listed p q k 32 (λ x e. candidate-here head sets grounds p q x e) (λ x e. candidate-alone head sets grounds p q x e),
         members-width w 0 k,
         mul-le-mul-right u (members-width w 0 k),
       ))
 
-  stages-most : (q : ℕ) → q < 100 → 2 * length (stagesText w head sets grounds listed q) ≤ q * 31019
+  stages-most : (q : ℕ) → q < 100 → 2 * length (stagesText w head sets grounds listed q) ≤ q * 16139
   stages-most =
-      by-stages w head sets (λ q. q < 100 → 2 * length (stagesText w head sets grounds listed q) ≤ q * 31019) (λ h. omega (arith, none-text w head sets grounds listed)) (λ q l ih h.
+      by-stages w head sets (λ q. q < 100 → 2 * length (stagesText w head sets grounds listed q) ≤ q * 16139) (λ h. omega (arith, none-text w head sets grounds listed)) (λ q l ih h.
       let p = start w head sets q in
       let f : p < q = start-falls w head sets q l in
       dite (ℕ-discrete p 0)
