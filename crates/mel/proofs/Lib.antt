@@ -3,7 +3,9 @@ pub mod Bound
 pub mod Sizes
 pub mod GoalSums
 pub mod PairCount
+pub mod MetBefore
 pub mod Candidates
+pub mod StagePrice
 pub mod Outcomes
 pub mod Record
 pub mod Limit

@@ -9,7 +9,7 @@ use Rattle.mel.specs.Annotation.{mel, melAnswer}
 
 -- No annotation is longer, by theorem (`mel-limit` of proofs/Theorems). The longest that we know of has 192,127 bytes.
 abbrev pub melLimit : ℕ
-melLimit = 258224
+melLimit = 197162
 
 abbrev pub MelLimit : List ℕ → Type 0
 MelLimit b = WellFormed b → length (mel b) ≤ melLimit
