@@ -1,6 +1,6 @@
 -- The variables of a stage's checks: those of the ground checks are in two goals of the stage, and the candidates for independence checks in one, and met before.
 use mathlib.Core.Path.{_≡_, sym, _∙_}
-use mathlib.Core.Bool.{Bool, true, false, not, _&&_}
+use mathlib.Core.Bool.{true, false, not}
 use mathlib.Core.List.{List}
 use Prim.Native.Nat.{ℕ, _+_}
 use Rattle.logic.proofs.Bools.{and-true, and-l, not-true, clash}
@@ -26,7 +26,7 @@ module _ (head : ℕ) (sets grounds : List ℕ) (p q x : ℕ) where
       let c = and-true (has (once sets p q) x) (has met x) (sym (has-meet (once sets p q) met x) ∙ b .0) in
       (c .0, c .1, not-true (has (twice sets p q) x) (b .1))
 
-  ground-twice : has (groundSet sets grounds p q) x ≡ true → has (twice sets p q) x ≡ true
+  pub ground-twice : has (groundSet sets grounds p q) x ≡ true → has (twice sets p q) x ≡ true
   ground-twice g = and-l (has (twice sets p q) x) (not (has (goal grounds (p + 1)) x)) (sym (has-without (twice sets p q) (goal grounds (p + 1)) x) ∙ g)
 
   -- a variable of a ground check is in two goals of the stage
@@ -34,8 +34,11 @@ module _ (head : ℕ) (sets grounds : List ℕ) (p q x : ℕ) where
   ground-shared g = shared-out sets p q x (sym (has-twice sets p q x) ∙ ground-twice g)
 
   module _ (e : has (pairSet head sets grounds p q) x ≡ true) where
+    pub candidate-once : has (once sets p q) x ≡ true
+    candidate-once = parts e .0
+
     pub candidate-here : Some p q (λ g. has (goal sets g) x)
-    candidate-here = occurs-out sets p q x (sym (has-once sets p q x) ∙ parts e .0)
+    candidate-here = occurs-out sets p q x (sym (has-once sets p q x) ∙ candidate-once)
 
     pub candidate-alone : Twice sets p q x → ⊥
     candidate-alone t = clash (has-twice sets p q x ∙ shared-in sets p q x t) (parts e .2)

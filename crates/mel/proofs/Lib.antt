@@ -1,10 +1,10 @@
 pub mod Length
-pub mod Bound
 pub mod Sizes
 pub mod GoalSums
 pub mod PairCount
 pub mod MetBefore
 pub mod Candidates
+pub mod Bound
 pub mod StagePrice
 pub mod Outcomes
 pub mod Record

@@ -1,29 +1,29 @@
--- No annotation of a well-formed record is longer than `melLimit`. A stage of one goal has no checks; one of k goals takes at most 8,070 bytes a goal, its comma counted.
-use mathlib.Core.Path.{_≡_, sym, ap}
+-- No annotation of a well-formed record is longer than `melLimit`. A stage of one goal has no checks. A larger one of k goals, before which m variables were met, takes
+-- (9386 * k + extra m) / 2 bytes at most, the comma behind it counted. Each stage has met more variables than the one before it, so all stages of 32 goals take
+-- (9386 * 32 + 93975) / 2.
+use mathlib.Core.Path.{_≡_, ap}
 use mathlib.Core.Logic.{dite}
 use mathlib.Core.Bool.{true, false}
-use mathlib.Core.List.{List, [], _∷_, map}
-use Prim.Native.Nat.{ℕ, suc, _+_, _-_, _*_, _≤_, _<_}
+use mathlib.Core.List.{List}
+use Prim.Native.Nat.{ℕ, _+_, _-_, _*_, _≤_, _<_}
 use native.Mathlib.Decide.{ℕ-discrete}
 use native.Mathlib.Omega.{arith}
 use lib.ListN.{length, take, length-append}
 use Rattle.sets.specs.Sets.{goalLimit, variableLimit, members}
-use Rattle.buffer.specs.Text.{nonEmpty, only}
+use Rattle.buffer.specs.Text.{nonEmpty}
 use Rattle.buffer.proofs.Decimal.{decimal-length}
 use Rattle.record_fields.specs.Fields.{goalCount, headSet}
 use Rattle.record.specs.WellFormed.{WellFormed}
 use Rattle.clause.specs.Clause.{goalSets, groundSets, pairRows}
-use Rattle.mel_stages.specs.Mel.{Check, Ground, checksFrom, checks, start}
+use Rattle.mel_stages.specs.Mel.{checks, start}
 use Rattle.mel_stages.specs.Masks.{given}
-use Rattle.mel_stages.specs.Plain.{All}
 use Rattle.mel_stages.proofs.Stages.{by-stages, start-falls, start-is-boundary}
 use Rattle.mel_text.specs.CheckTexts.{groundsText, pairsText, pairsOf}
 use Rattle.mel_text.specs.StageTexts.{groundSet, pairSet, checksText, stageText, stagesText}
-use Rattle.mel_text.proofs.Lists.{checks-step, checks-none, item-step, ground-length}
 use Rattle.mel_text.proofs.Stages.{checks-parts, stages-one, stages-more, stage-parts, stage-one}
 use Rattle.mel.specs.Annotation.{mel}
 use Rattle.mel.specs.Limit.{melLimit}
-use Rattle.mel.proofs.Length.{below-hundred, checks-length, goals-bound, arrow-length, none-text, mel-text}
+use Rattle.mel.proofs.Length.{below-hundred, checks-length, grounds-length, no-comma, goals-bound, arrow-length, mel-text}
 use Rattle.mel.proofs.Bound.{members-width, pairs-short}
 use Rattle.mel.proofs.Sizes.{size, size-apart}
 use Rattle.mel.proofs.PairCount.{pairs, pairs-most}
@@ -32,18 +32,7 @@ use Rattle.mel.proofs.Candidates.{ground-shared, candidate-here, candid
 use Rattle.mel.proofs.StagePrice.{extra, extras, extras-more, extras-one, extras-all, checks-price}
 use Rattle.mel.proofs.Record.{facts-text, facts-length}
 
--- 12 bytes a ground check, its comma counted
-grounds-length : (l : List ℕ) → All (λ x. x < 100) l → length (checksFrom true (map Ground l)) ≤ 12 * length l
-grounds-length [] a = omega (arith, ap length (checks-none true))
-grounds-length (x ∷ l) a =
-    omega (arith, simp length-append at (ap length (item-step (Ground x) (map Ground l))), ground-length x, decimal-length 1 x (a .0), grounds-length l (a .1))
-
--- the first check has no comma
-no-comma : (l : List Check) → length (checksFrom false l) ≤ length (checksFrom true l)
-unfolding only
-no-comma [] = omega (arith, ap length (checks-none false))
-no-comma (c ∷ l) = omega (arith, simp length-append at (ap length (checks-step false c l)), simp length-append at (ap length (checks-step true c l)))
-
+-- a stage's text by the numbers of its checks, with variables and goals of at most two digits
 module _ (w head : ℕ) (sets grounds listed : List ℕ) (narrow : w ≤ 100) where
   -- how many checks of each kind a stage has
   abbrev grounds-of : ℕ → ℕ → ℕ

@@ -1,4 +1,4 @@
--- The variables met before a stage: those of the head and of the goals before it. Each stage has one more of them than the stage before it, and its checks are made of them.
+-- The variables met before a stage: those of the head and of the goals before it. Each stage has more of them than the stage before it, and its ground checks are of them.
 use mathlib.Core.Path.{_≡_, sym, ap, ap₂, _∙_}
 use mathlib.Core.Logic.{⊎-elim}
 use mathlib.Core.Bool.{Bool, true, false, _||_}
@@ -40,7 +40,7 @@ module _ (head : ℕ) (sets : List ℕ) where
       (λ t. let s = occurs-out sets 0 r x t in met-goal p x (s .g) (s .above) (omega (arith, s .upto)) (s .so))
 
   module _ (w : ℕ) where
-    -- a boundary after goal p is a variable met before p + 1 and not before
+    -- the variable of a boundary is met by goal p and not earlier
     pub met-more : (q p r : ℕ) → r < p → Boundary w head sets q p → size w 0 (before r) < size w 0 (before p)
     met-more q p r l k =
         let x = k .x in

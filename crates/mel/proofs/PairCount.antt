@@ -1,8 +1,8 @@
--- How many independence checks a stage has.
+-- How many independence checks a stage has at most: of u candidates in k goals, (u * u - 2 * h * u + k * h * h) / 2, whatever h is.
 use mathlib.Core.Path.{_≡_, refl, sym, ap, _∙_}
 use mathlib.Core.Logic.{dite}
 use mathlib.Core.Bool.{Bool, true, false, not, _&&_, cond, and-false}
-use mathlib.Core.List.{List, [], _∷_, map}
+use mathlib.Core.List.{List, _∷_, map}
 use Prim.Native.Nat.{ℕ, zero, suc, _+_, _-_, _*_, _≤_, _<_}
 use native.Mathlib.Decide.{decLt}
 use native.Mathlib.Omega.{arith}
@@ -26,7 +26,7 @@ module _ (w : ℕ) (sets listed : List ℕ) (p q k : ℕ) where
   others x = partners sets p q k (getD listed x 0) x
 
   -- a partner of x is above x, another candidate, and not in x's goal
-  others-out : (x y : ℕ) → has (others x) y ≡ true → (x < y) × (has k y ≡ true) × (has (goalWith sets p q x) y ≡ false)
+  pub others-out : (x y : ℕ) → has (others x) y ≡ true → (x < y) × (has k y ≡ true) × (has (goalWith sets p q x) y ≡ false)
   unfolding partners
   others-out x y e =
       let row = getD listed x 0 in
@@ -41,11 +41,12 @@ module _ (w : ℕ) (sets listed : List ℕ) (p q k : ℕ) where
         not-true (has own y) (and-r (has (without k row) y) (not (has own y)) e1),
       )
 
-  -- they are as many as they are above x
+  -- so all of them are among the variables above x
   others-size : (n x : ℕ) → x + suc n ≡ w → length (members w (others x)) ≤ size n (suc x) (others x)
   others-size n x e =
       size-top w 0 n (suc x) (others x) (omega arith) (omega arith) (λ y l. is-false (has (others x) y) (λ t. absurd (omega (arith, others-out x y t .0))))
 
+  -- the checks of the candidates among the n variables from i on
   unfoldable pub pairs : ℕ → ℕ → ℕ
   pairs n i = length (pairsOf w sets listed p q k (membersFrom n i k))
 
@@ -53,8 +54,8 @@ module _ (w : ℕ) (sets listed : List ℕ) (p q k : ℕ) where
   abbrev own : ℕ → ℕ → ℕ → ℕ
   own n i g = size n i (meet k (goal sets g))
 
-  -- Each candidate is in one goal of the stage. Let u be the number of all candidates, and u g that of goal g's: the pairs are at most (u * u - the sum of u g * u g) / 2.
-  -- Here with h: the squares of the distances of each u g from h stand for those of the u g.
+  -- Each candidate is in one goal of the stage. If u g of the u candidates are in goal g, the pairs from two goals are half of u * u without the sum of the u g * u g.
+  -- The square of u g's distance from h is u g * u g - 2 * h * u g + h * h, so the sum of these, `spread`, can stand in the place of the other sum.
   module _ (h : ℕ) (here : (x : ℕ) → has k x ≡ true → Some p q (λ g. has (goal sets g) x)) (alone : (x : ℕ) → has k x ≡ true → Twice sets p q x → ⊥) where
     spread : ℕ → ℕ → ℕ
     spread n i = sumFrom (q - p) p (λ g. distance h (own n i g))
@@ -67,7 +68,7 @@ module _ (w : ℕ) (sets listed : List ℕ) (p q k : ℕ) where
         (λ l. alone x e (record { s = g; t = c; above = lg; order = l; upto = uc; in-s = s; in-t = t }))
         (λ n. alone x e (record { s = c; t = g; above = lc; order = omega arith; upto = ug; in-s = t; in-t = s })))
 
-    -- a variable more that is no candidate, and one that is
+    -- one variable more: no candidate, or a candidate of goal c
     spread-out : (n i : ℕ) → has k i ≡ false → spread (suc n) i ≤ spread n (suc i)
     unfolding spread
     spread-out n i e =

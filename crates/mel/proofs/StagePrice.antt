@@ -1,5 +1,5 @@
--- The numbers behind the limit. Twice the bytes of the checks of a stage of k goals, before which m variables were met, are at most 9375 * k + 15 * m * (m - 50). Since each stage
--- has met more variables than the one before it, the second part is paid once for each m.
+-- The numbers behind the limit. Twice the bytes of the checks of a stage of k goals, before which m variables were met, are at most 9375 * k + extra m, 9375 = 15 * 25 * 25.
+-- Each stage has met more variables than the one before it, so each `extra m` is paid once. Of all h in the bound on the pairs, 25 gives the least sum for 32 goals and 64 variables.
 use mathlib.Core.Path.{_≡_, refl, ap}
 use mathlib.Core.Logic.{⊎-elim, dite}
 use Prim.Native.Nat.{ℕ, zero, suc, _+_, _-_, _*_, _≤_, _<_}
@@ -7,7 +7,7 @@ use native.Mathlib.Nat.{eq-or-lt-of-le, le-of-suc-le-suc, mul-le-mul-right}
 use native.Mathlib.Decide.{decLt}
 use native.Mathlib.Omega.{arith}
 
--- what a stage pays for the m variables met before it, and what all the stages pay together
+-- what a stage pays for the m variables met before it, and what stages with up to m pay together
 abbrev pub extra : ℕ → ℕ
 extra m = 15 * (m * (m - 50))
 
@@ -33,13 +33,14 @@ extras-one (suc m) = omega arith
 pub extras-all : (m : ℕ) → m ≤ 64 → extras m ≤ 93975
 extras-all m h = let e : extras 64 ≡ 93975 = unfold extras in refl in omega (arith, extras-mono m 64 h)
 
+-- u * u - 50 * u falls below u = 50 and grows above it, by more than the ground checks cost
 square-below : (u d : ℕ) → 25 ≤ u → u + d ≡ 50 → u * u + 25 * d ≤ 50 * u
 square-below u d h e = omega (arith, mul-le-mul-right d h, ap (λ (t : ℕ). t * u) e)
 
 square-above : (u d j : ℕ) → 25 ≤ u → u + d ≡ 50 + j → u * u + 25 * d ≤ 50 * u + (50 + j) * j
 square-above u d j h e = let f : 75 ≤ 2 * u + d = omega arith in omega (arith, mul-le-mul-right d f, ap (λ (t : ℕ). t * t) e)
 
--- n pairs of u variables, and g other variables that are to be ground
+-- n independence checks of u variables, and g ground checks of others
 module _ (u g m n k : ℕ) (some : 2 ≤ k) (met : u + g ≤ m) (width : m ≤ 64) where
   few : 2 * n ≤ u * u → u < 25 → 2 * (12 * g + 15 * n) ≤ k * 9375 + extra m
   few pairs h = omega (arith, mul-le-mul-right u h)
