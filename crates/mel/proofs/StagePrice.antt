@@ -6,6 +6,7 @@ use Prim.Native.Nat.{ℕ, zero, suc, _+_, _-_, _*_, _≤_, _<_}
 use native.Mathlib.Nat.{eq-or-lt-of-le, le-of-suc-le-suc, mul-le-mul-right}
 use native.Mathlib.Decide.{decLt}
 use native.Mathlib.Omega.{arith}
+use Rattle.sets.specs.Sets.{variableLimit}
 
 -- what a stage pays for the m variables met before it, and what stages with up to m pay together
 abbrev pub extra : ℕ → ℕ
@@ -30,10 +31,10 @@ unfolding extras
 extras-one zero = omega arith
 extras-one (suc m) = omega arith
 
-pub extras-all : (m : ℕ) → m ≤ 64 → extras m ≤ 93975
-extras-all m h = let e : extras 64 ≡ 93975 = unfold extras in refl in omega (arith, extras-mono m 64 h)
+pub extras-all : (m : ℕ) → m ≤ variableLimit → extras m ≤ 93975
+extras-all m h = let e : extras variableLimit ≡ 93975 = unfold extras in refl in omega (arith, extras-mono m variableLimit h)
 
--- u * u - 50 * u falls below u = 50 and grows above it, by more than the ground checks cost
+-- u * u - 50 * u of 25 candidates or more, with 25 for each of d other variables, is no more than the same of all of them as candidates, or than 0 up to 50
 square-below : (u d : ℕ) → 25 ≤ u → u + d ≡ 50 → u * u + 25 * d ≤ 50 * u
 square-below u d h e = omega (arith, mul-le-mul-right d h, ap (λ (t : ℕ). t * u) e)
 
@@ -41,7 +42,7 @@ square-above : (u d j : ℕ) → 25 ≤ u → u + d ≡ 50 + j → u * u + 25 * 
 square-above u d j h e = let f : 75 ≤ 2 * u + d = omega arith in omega (arith, mul-le-mul-right d f, ap (λ (t : ℕ). t * t) e)
 
 -- n independence checks of u variables, and g ground checks of others
-module _ (u g m n k : ℕ) (some : 2 ≤ k) (met : u + g ≤ m) (width : m ≤ 64) where
+module _ (u g m n k : ℕ) (some : 2 ≤ k) (met : u + g ≤ m) (width : m ≤ variableLimit) where
   few : 2 * n ≤ u * u → u < 25 → 2 * (12 * g + 15 * n) ≤ k * 9375 + extra m
   few pairs h = omega (arith, mul-le-mul-right u h)
 
