@@ -11,15 +11,13 @@ use native.Mathlib.Omega.{arith}
 use lib.Dec.{ltb}
 use lib.Pow.{pow-pos}
 use lib.ListN.{length, getD, length-append, length-map}
-use Rattle.logic.proofs.Bools.{and-l}
-use Rattle.sets.specs.Sets.{goalLimit, variableLimit, has, meet, union, without, below, count, membersFrom, members}
-use Rattle.sets.proofs.Membership.{has-meet, has-without}
+use Rattle.sets.specs.Sets.{goalLimit, variableLimit, has, union, count, membersFrom, members}
 use Rattle.sets.proofs.Builder.{union-lt}
 use Rattle.sets.proofs.Members.{count-members, no-more}
 use Rattle.buffer.specs.Text.{nonEmpty}
 use Rattle.buffer.proofs.Decimal.{decimal-length}
 use Rattle.mel_stages.specs.Mel.{Ground, Indep, goal, start, checks}
-use Rattle.mel_stages.specs.Masks.{given, once, twice, goalWith, candidates, partners}
+use Rattle.mel_stages.specs.Masks.{given, once, twice, partners}
 use Rattle.mel_stages.proofs.Words.{occurs-out, occurs-in, shared-out}
 use Rattle.mel_stages.proofs.Masks.{has-once, has-twice}
 use Rattle.mel_stages.specs.Plain.{All}
@@ -27,10 +25,12 @@ use Rattle.mel_stages.proofs.Stages.{all-append, by-stages, start-falls}
 use Rattle.mel_text.specs.CheckTexts.{pairsOf}
 use Rattle.mel_text.specs.StageTexts.{groundSet, pairSet, checksText, stageText, stagesText, melText}
 use Rattle.mel_text.proofs.Stages.{checks-masks, stages-one, stages-more, stage-parts, stage-one}
+use Rattle.mel.proofs.PairCount.{others-out}
+use Rattle.mel.proofs.Candidates.{ground-twice, candidate-once}
 use Rattle.mel.proofs.Length.{Short, below-hundred, all-short, checks-length, goals-bound, arrow-length, none-text, mel-text}
 
 -- a set has no more members than the width
-members-width : (w i m : ℕ) → length (membersFrom w i m) ≤ w
+pub members-width : (w i m : ℕ) → length (membersFrom w i m) ≤ w
 unfolding membersFrom
 members-width zero i m = zero-le
 members-width (suc w) i m = go (has m i) (members-width w (suc i) m)
@@ -55,14 +55,6 @@ once-lt w sets h p (suc q) = go (ltb p (suc q)) (once-lt w sets h p q)
     go : (b : Bool) → once sets p q < 2 ^ w → cond b (union (once sets p q) (getD sets (suc q - 1) 0)) (once sets p q) < 2 ^ w
     go true l = union-lt w (once sets p q) (getD sets (suc q - 1) 0) l (h (suc q - 1))
     go false l = l
-
-left-of : (a b i : ℕ) → has (without a b) i ≡ true → has a i ≡ true
-left-of a b i e = and-l (has a i) _ (sym (has-without a b i) ∙ e)
-
-partners-in : (sets : List ℕ) (p q k row x y : ℕ) → has (partners sets p q k row x) y ≡ true → has k y ≡ true
-unfolding partners
-partners-in sets p q k row x y e =
-    left-of k row y (left-of (without k row) (goalWith sets p q x) y (left-of (without (without k row) (goalWith sets p q x)) (below (x + 1)) y e))
 
 -- the numbers of the bound fit a machine's number
 pub square : (v : ℕ) → v ≤ variableLimit → v * v ≤ variableLimit * v
@@ -90,14 +82,10 @@ module _ (w head : ℕ) (sets grounds listed : List ℕ) (n : ℕ) where
       has-once sets 0 n x ∙ occurs-in sets 0 n x (s .t) (omega (arith, s .order)) (omega (arith, s .upto, h)) (s .in-t)
 
   gset-in : (p q x : ℕ) → q ≤ n → has (groundSet sets grounds p q) x ≡ true → has vars x ≡ true
-  gset-in p q x h e = twice-in p q x h (left-of (twice sets p q) (goal grounds (p + 1)) x e)
+  gset-in p q x h e = twice-in p q x h (ground-twice head sets grounds p q x e)
 
   kset-in : (p q x : ℕ) → q ≤ n → has (pairSet head sets grounds p q) x ≡ true → has vars x ≡ true
-  unfolding candidates
-  kset-in p q x h e =
-      let met = union head (once sets 0 p) in
-      let both = left-of (meet (once sets p q) met) (twice sets p q) x (left-of (without (meet (once sets p q) met) (twice sets p q)) (goal grounds (p + 1)) x e) in
-      once-in p q x h (and-l (has (once sets p q) x) (has met x) (sym (has-meet (once sets p q) met x) ∙ both))
+  kset-in p q x h e = once-in p q x h (candidate-once head sets grounds p q x e)
 
   pairs-count : (p q k : ℕ) → ((y : ℕ) → has k y ≡ true → has vars y ≡ true) → (l : List ℕ) → length (pairsOf w sets listed p q k l) ≤ length l * v
   unfolding pairsOf
@@ -108,7 +96,7 @@ module _ (w head : ℕ) (sets grounds listed : List ℕ) (n : ℕ) where
         arith,
         length-append (map (Indep x) (members w others)) (pairsOf w sets listed p q k l),
         length-map (members w others) (Indep x),
-        no-more w 0 others vars (λ y e. h y (partners-in sets p q k (getD listed x 0) x y e)),
+        no-more w 0 others vars (λ y e. h y (others-out w sets listed p q k x y e .1)),
         pairs-count p q k h l,
         suc-mul (length l) v,
       )
@@ -127,7 +115,7 @@ module _ (w head : ℕ) (sets grounds listed : List ℕ) (n : ℕ) where
         mul-le-mul-right v (no-more w 0 k vars (λ x e. kset-in p q x h e)),
       )
 
-  pairs-short : w ≤ 100 → (p q k : ℕ) (l : List ℕ) → All (λ x. x < 100) l → All Short (pairsOf w sets listed p q k l)
+  pub pairs-short : w ≤ 100 → (p q k : ℕ) (l : List ℕ) → All (λ x. x < 100) l → All Short (pairsOf w sets listed p q k l)
   unfolding pairsOf
   pairs-short u p q k [] a = tt
   pairs-short u p q k (x ∷ l) a =

@@ -1,11 +1,11 @@
--- How long the parts of an annotation are at most: 15 bytes a check, 3 a goal.
+-- How long the parts of an annotation are at most: 15 bytes a check with its comma, 12 a ground check, 3 a goal.
 use mathlib.Core.Path.{_≡_, refl, ap}
 use mathlib.Core.Bool.{Bool, true, false, cond}
 use mathlib.Core.List.{List, [], _∷_, map}
 use Prim.Native.Nat.{ℕ, zero, suc, _+_, _-_, _*_, _≤_, _<_, zero-le}
 use native.Mathlib.Omega.{arith}
 use lib.ListN.{length, length-append}
-use Rattle.buffer.specs.Text.{joinFrom}
+use Rattle.buffer.specs.Text.{joinFrom, only}
 use Rattle.buffer.specs.Decimal.{decimal}
 use Rattle.buffer.proofs.Writing.{join-step, join-none, only-length}
 use Rattle.buffer.proofs.Decimal.{decimal-length}
@@ -16,7 +16,7 @@ use Rattle.mel_stages.specs.Plain.{All}
 use Rattle.sets.specs.Sets.{has, membersFrom}
 use Rattle.mel_stages.proofs.Stages.{stages-none}
 use Rattle.mel_text.specs.CheckTexts.{item}
-use Rattle.mel_text.proofs.Lists.{checks-step, checks-none, ground-length, indep-length}
+use Rattle.mel_text.proofs.Lists.{checks-step, checks-none, item-step, ground-length, indep-length}
 use Rattle.mel_text.specs.StageTexts.{stagesText, melText}
 
 -- the variables of a check have at most two digits
@@ -35,6 +35,18 @@ check-length c h = omega (arith, item-length c h)
 pub checks-length : (more : Bool) (l : List Check) → All Short l → length (checksFrom more l) ≤ 15 * length l
 checks-length more [] h = omega (arith, ap length (checks-none more))
 checks-length more (c ∷ l) h = omega (arith, simp length-append at (ap length (checks-step more c l)), only-length more 44, check-length c (h .0), checks-length true l (h .1))
+
+-- 12 bytes a ground check
+pub grounds-length : (l : List ℕ) → All (λ x. x < 100) l → length (checksFrom true (map Ground l)) ≤ 12 * length l
+grounds-length [] a = omega (arith, ap length (checks-none true))
+grounds-length (x ∷ l) a =
+    omega (arith, simp length-append at (ap length (item-step (Ground x) (map Ground l))), ground-length x, decimal-length 1 x (a .0), grounds-length l (a .1))
+
+-- the first check has no comma
+pub no-comma : (l : List Check) → length (checksFrom false l) ≤ length (checksFrom true l)
+unfolding only
+no-comma [] = omega (arith, ap length (checks-none false))
+no-comma (c ∷ l) = omega (arith, simp length-append at (ap length (checks-step false c l)), simp length-append at (ap length (checks-step true c l)))
 
 -- the checks of variables below 100
 pub below-hundred : (w i m : ℕ) → i + w ≤ 100 → All (λ x. x < 100) (membersFrom w i m)

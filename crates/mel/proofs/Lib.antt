@@ -1,6 +1,13 @@
 pub mod Length
+pub mod Sizes
+pub mod GoalSums
+pub mod PairCount
+pub mod MetBefore
+pub mod Candidates
 pub mod Bound
-pub mod Theorems
+pub mod StagePrice
 pub mod Outcomes
 pub mod Record
+pub mod Limit
+pub mod Theorems
 pub mod Short

@@ -1,21 +1,25 @@
--- T10: what the definition of the annotation gives, in the words of `Plain` of `mel_stages`. For any width, any clause and any number of goals; at the end of the operation on a record.
+-- T10: what the definition of the annotation gives, in the words of `Plain` of `mel_stages`. For any width, any clause and any number of goals; at the end of the operation on a record,
+-- and how long its text can be.
 use mathlib.Core.Path.{_≡_, refl, sym, _∙_}
-use mathlib.Core.Logic.{_↔_}
+use mathlib.Core.Logic.{_↔_, ⊎-elim}
 use mathlib.Core.List.{List, _++_}
 use Prim.Native.Nat.{ℕ, _<_, _≤_}
 use native.Mathlib.Omega.{arith}
 use lib.ListN.{length, drop}
 use Rattle.record.specs.WellFormed.{WellFormed}
-use Rattle.record.proofs.WellFormed.{well-formed-fine}
+use Rattle.record.proofs.WellFormed.{well-formed-fine, fine-well-formed}
+use Rattle.record.proofs.Refusals.{refusal-number}
 use Rattle.mel_stages.specs.Mel.{Facts, Ground, Indep, goalsFrom, stages, checks}
 use Rattle.mel_stages.specs.Plain.{All, Among, goalsOf, Sound, Grounded, Separate, Ascending}
 use Rattle.mel_stages.proofs.Stages.{partition, stages-sound}
 use Rattle.buffer.specs.Lent.{stored}
 use Rattle.buffer.proofs.Lent.{fits-le}
-use Rattle.record_rules.specs.Outcome.{refused, accepted}
-use Rattle.record_rules.proofs.Outcomes.{size-fits, size-short, buffer-short, same-answer, same-buffer}
+use Rattle.record_rules.specs.Outcome.{refused, accepted, sizeIn}
+use Rattle.record_rules.proofs.Outcomes.{size-fits, size-short, buffer-short, same-answer, same-buffer, told-apart, one-refusal, by-reading}
 use Rattle.mel.specs.Annotation.{mel, melOutcome, melAnswer, melBuffer}
+use Rattle.mel.specs.Limit.{MelLimit, NeverShort}
 use Rattle.mel.proofs.Outcomes.{mel-fine}
+use Rattle.mel.proofs.Limit.{limit}
 use Rattle.mel_stages.proofs.Checks.{grounds-listed, listed-grounds, indeps-listed, listed-indeps, checks-ascend}
 
 module _ (w head : ℕ) (sets : List ℕ) (n : ℕ) where
@@ -59,3 +63,14 @@ module _ (b buf : List ℕ) (w : WellFormed b) where
     same-answer buf e ∙ sym (size-fits (mel b) buf refl h),
     same-buffer buf e ∙ rw (fits-le (mel b) buf h),
   )
+
+-- No text is longer than `melLimit`, so a buffer of that length is never refused with 12.
+pub mel-limit : (b : List ℕ) → MelLimit b
+mel-limit b w = limit b w
+
+pub mel-never-short : (b : List ℕ) → NeverShort b
+unfolding melOutcome
+mel-never-short b buf p room =
+    by-reading b (accepted (mel b)) (λ o. sizeIn o buf ≡ refused 12 p → ⊥)
+    (λ r e h. let k = one-refusal h .0 in ⊎-elim (λ l. absurd (omega (arith, k, l))) (λ l. absurd (omega (arith, k, l))) (refusal-number b r e))
+    (λ e h. told-apart (sym (size-fits (mel b) buf refl (omega (arith, room, mel-limit b (fine-well-formed b e))) ∙ h)))
