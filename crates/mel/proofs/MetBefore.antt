@@ -8,6 +8,7 @@ use native.Mathlib.Nat.{eq-or-lt-of-le, le-of-suc-le-suc, le-refl}
 use native.Mathlib.Omega.{arith}
 use Rattle.logic.proofs.Bools.{test, or-elim, or-l, or-r, or-false, is-false, clash}
 use Rattle.sets.specs.Sets.{has, union}
+use Rattle.sets.proofs.Members.{members-less}
 use Rattle.sets.proofs.Membership.{has-union}
 use Rattle.mel_stages.specs.Mel.{goal, occurs, start}
 use Rattle.mel_stages.specs.Masks.{once}
@@ -15,7 +16,7 @@ use Rattle.mel_stages.specs.Plain.{Boundary, Twice}
 use Rattle.mel_stages.proofs.Words.{occurs-out, occurs-in}
 use Rattle.mel_stages.proofs.Masks.{has-once}
 use Rattle.mel_stages.proofs.Stages.{start-is-largest}
-use Rattle.mel.proofs.Sizes.{size, size-less}
+use Rattle.mel.proofs.Sizes.{size}
 
 module _ (head : ℕ) (sets : List ℕ) where
   abbrev pub before : ℕ → ℕ
@@ -44,7 +45,7 @@ module _ (head : ℕ) (sets : List ℕ) where
     pub met-more : (q p r : ℕ) → r < p → Boundary w head sets q p → size w 0 (before r) < size w 0 (before p)
     met-more q p r l k =
         let x = k .x in
-        size-less w 0 (before r) (before p) x (λ j e. met-later r p j (omega arith) e) (omega arith) (omega (arith, k .under))
+        members-less w 0 (before r) (before p) x (λ j e. met-later r p j (omega arith) e) (omega arith) (omega (arith, k .under))
         (has-before r x
         ∙ ap₂ _||_ (k .outside) (is-false (occurs sets 0 r x) (λ t. let s = occurs-out sets 0 r x t in clash (s .so) (k .first (s .g) (s .above) (omega (arith, s .upto))))))
         (met-goal p x p (omega arith) (le-refl p) (k .here))

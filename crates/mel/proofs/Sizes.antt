@@ -1,8 +1,7 @@
 -- How many members of a set are among the k numbers from i on.
-use mathlib.Core.Path.{_≡_, ap, ap₂, _∙_}
+use mathlib.Core.Path.{_≡_, ap₂, _∙_}
 use mathlib.Core.Logic.{⊎-elim}
 use mathlib.Core.Bool.{Bool, true, false, not, _&&_, cond}
-use mathlib.Core.List.{List, [], _∷_}
 use Prim.Native.Nat.{ℕ, zero, suc, _+_, _≤_, _<_, zero-le}
 use native.Mathlib.Nat.{eq-or-lt-of-le}
 use native.Mathlib.Omega.{arith}
@@ -10,18 +9,10 @@ use lib.ListN.{length}
 use Rattle.logic.proofs.Bools.{and-i, not-i, cond-mono}
 use Rattle.sets.specs.Sets.{has, meet, without, membersFrom}
 use Rattle.sets.proofs.Membership.{has-meet, has-without}
-use Rattle.sets.proofs.Members.{In, members-in}
+use Rattle.sets.proofs.Members.{size-step}
 
 abbrev pub size : ℕ → ℕ → ℕ → ℕ
 size k i m = length (membersFrom k i m)
-
-pub size-step : (k i m : ℕ) → size (suc k) i m ≡ cond (has m i) 1 0 + size k (suc i) m
-unfolding membersFrom
-size-step k i m = go (has m i)
-  where
-    go : (p : Bool) → length (cond p (i ∷ membersFrom k (suc i) m) (membersFrom k (suc i) m)) ≡ cond p 1 0 + size k (suc i) m
-    go true = omega arith
-    go false = omega arith
 
 pub size-in : (k i m : ℕ) → has m i ≡ true → size (suc k) i m ≡ suc (size k (suc i) m)
 size-in k i m e = omega (arith, rw e at (size-step k i m))
@@ -81,18 +72,4 @@ size-apart k i a b m ha hb apart =
       size-split k i m a,
       size-mono k i a (meet m a) (λ x l u e. has-meet m a x ∙ and-i (has m x) (has a x) (ha x l u e) e),
       size-mono k i b (without m a) (λ x l u e. has-without m a x ∙ and-i (has m x) (not (has a x)) (hb x l u e) (not-i (has a x) (λ t. apart x t e))),
-    )
-
--- a set with a member more
-some-in : (x : ℕ) (l : List ℕ) → In x l → 0 < length l
-some-in x [] h = absurd h
-some-in x (y ∷ l) h = omega arith
-
-pub size-less : (k i a b x : ℕ) → ((j : ℕ) → has a j ≡ true → has b j ≡ true) → i ≤ x → x < i + k → has a x ≡ false → has b x ≡ true → size k i a < size k i b
-size-less k i a b x h l u f t =
-    omega (
-      arith,
-      size-split k i b a,
-      size-mono k i a (meet b a) (λ j _ _ e. has-meet b a j ∙ and-i (has b j) (has a j) (h j e) e),
-      some-in x (membersFrom k i (without b a)) (members-in k i (without b a) x l u (has-without b a x ∙ and-i (has b x) (not (has a x)) t (ap not f))),
     )

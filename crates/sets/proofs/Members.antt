@@ -124,7 +124,7 @@ fewer w m h n = omega (arith, ap length (members-step w m h n))
 
 -- ---- a proper subset has a smaller count
 
-size-step : (k i m : ℕ) → length (membersFrom (suc k) i m) ≡ cond (has m i) 1 0 + length (membersFrom k (suc i) m)
+pub size-step : (k i m : ℕ) → length (membersFrom (suc k) i m) ≡ cond (has m i) 1 0 + length (membersFrom k (suc i) m)
 unfolding membersFrom
 size-step k i m = go (has m i)
   where
@@ -138,10 +138,10 @@ unfolding membersFrom
 no-more zero i a b h = zero-le
 no-more (suc k) i a b h = omega (arith, size-step k i a, size-step k i b, cond-mono (has a i) (has b i) (h i), no-more k (suc i) a b h)
 
-less : (k i a b x : ℕ) → ((j : ℕ) → has a j ≡ true → has b j ≡ true) → i ≤ x → x < i + k → has a x ≡ false → has b x ≡ true
+pub members-less : (k i a b x : ℕ) → ((j : ℕ) → has a j ≡ true → has b j ≡ true) → i ≤ x → x < i + k → has a x ≡ false → has b x ≡ true
     → length (membersFrom k i a) < length (membersFrom k i b)
-less zero i a b x h l u f t = absurd (omega arith)
-less (suc k) i a b x h l u f t =
+members-less zero i a b x h l u f t = absurd (omega arith)
+members-less (suc k) i a b x h l u f t =
     ⊎-elim
     (λ s.
     let p : has a i ≡ false = ap (has a) s ∙ f in
@@ -149,10 +149,10 @@ less (suc k) i a b x h l u f t =
     let ea : length (membersFrom (suc k) i a) ≡ length (membersFrom k (suc i) a) = size-step k i a ∙ rw p (zero-add (length (membersFrom k (suc i) a))) in
     let eb : length (membersFrom (suc k) i b) ≡ 1 + length (membersFrom k (suc i) b) = size-step k i b ∙ rw q in
     omega (arith, no-more k (suc i) a b h))
-    (λ g. omega (arith, size-step k i a, size-step k i b, cond-mono (has a i) (has b i) (h i), less k (suc i) a b x h g (omega arith) f t))
+    (λ g. omega (arith, size-step k i a, size-step k i b, cond-mono (has a i) (has b i) (h i), members-less k (suc i) a b x h g (omega arith) f t))
     (eq-or-lt-of-le l)
 
 pub count-less : (w a b x : ℕ) → a < 2 ^ w → b < 2 ^ w → ((j : ℕ) → has a j ≡ true → has b j ≡ true) → has a x ≡ false → has b x ≡ true
     → count a < count b
 count-less w a b x ha hb h f t =
-    omega (arith, count-members w a ha, count-members w b hb, less w 0 a b x h zero-le (omega (arith, member-below w b x hb t)) f t)
+    omega (arith, count-members w a ha, count-members w b hb, members-less w 0 a b x h zero-le (omega (arith, member-below w b x hb t)) f t)
