@@ -3,6 +3,7 @@
 
 mod fork_join;
 mod graph;
+mod halves;
 mod layers;
 mod page;
 mod places;

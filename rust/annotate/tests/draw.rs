@@ -101,12 +101,13 @@ fn four(order: &[u32]) -> Option<[u32; 4]> {
     None
 }
 
-fn scene_of_order(order: Vec<u32>) -> Scene {
-    let four = four(&order);
-    Scene { four, ..scene(names(order.len()), order, None) }
+/// The scene of an order without a form, or none.
+fn scene_of_order(order: Vec<u32>) -> Option<Scene> {
+    let four = Some(four(&order)?);
+    Some(Scene { four, ..scene(names(order.len()), order, None) })
 }
 
-/// Scenes with a form and orders of up to 32 goals, most of the latter without a form.
+/// Scenes with a form and without, of up to 32 goals.
 fn scenes() -> Vec<Scene> {
     let mut random = Random(20);
     let mut scenes = Vec::new();
@@ -115,7 +116,7 @@ fn scenes() -> Vec<Scene> {
         let form = random.form(1, goals, round % 2 == 0);
         scenes.push(scene_of_form(form));
         let rare = [2, 4, 8, 16, 40][round % 5];
-        scenes.push(scene_of_order(random.order(goals as usize, rare)));
+        scenes.extend(scene_of_order(random.order(goals as usize, rare)));
     }
     let list =
         |from: u32, to, sign| (from..=to).map(|g| g.to_string()).collect::<Vec<_>>().join(sign);
@@ -244,17 +245,21 @@ fn points(path: &str) -> Vec<(f64, f64)> {
 }
 
 #[test]
-fn no_line_of_the_graph_runs_through_a_box() {
+fn no_line_runs_through_a_box() {
     for scene in scenes() {
         let svg = draw::svg(&scene);
-        let rects: Vec<[f64; 4]> =
-            boxes(&svg, "graph").iter().map(|(_, rect)| edges(rect)).collect();
-        for path in elements(&svg, "line").iter().chain(&elements(&svg, "through")) {
-            for (x, y) in points(path) {
-                let inside = |rect: &&[f64; 4]| {
-                    rect[0] + 0.2 < x && x < rect[2] - 0.2 && rect[1] + 0.2 < y && y < rect[3] - 0.2
-                };
-                assert_eq!(rects.iter().find(inside), None, "{path}");
+        let kinds =
+            [("line", "graph"), ("through", "graph"), ("flow", "form"), ("relation", "four")];
+        for (class, half) in kinds {
+            let rects: Vec<_> = boxes(&svg, half).iter().map(|(_, rect)| edges(rect)).collect();
+            for path in elements(&svg, class) {
+                for (x, y) in points(path) {
+                    let within = |low, here, high| low + 0.2 < here && here < high - 0.2;
+                    let inside = |rect: &&[f64; 4]| {
+                        within(rect[0], x, rect[2]) && within(rect[1], y, rect[3])
+                    };
+                    assert_eq!(rects.iter().find(inside), None, "{path}");
+                }
             }
         }
     }
@@ -270,6 +275,31 @@ fn a_line_leads_to_a_later_layer() {
         let downwards = |pair: &(u32, u32)| corner(pair.0)[3] < corner(pair.1)[1];
         let lines = pairs(&svg, "line");
         assert!(lines.iter().all(rightwards) || lines.iter().all(downwards));
+    }
+}
+
+/// How many groups an expression has.
+fn groups(form: &Expr) -> usize {
+    match form {
+        Expr::Goal(_) => 0,
+        Expr::Sequence(parts) => parts.iter().map(groups).sum(),
+        Expr::Parallel(parts) => 1 + parts.iter().map(groups).sum::<usize>(),
+    }
+}
+
+#[test]
+fn in_the_form_a_goal_stands_left_of_those_that_wait_or_in_a_row_above() {
+    for scene in scenes() {
+        let Some(form) = &scene.form else { continue };
+        let svg = draw::svg(&scene);
+        assert_eq!(elements(&svg, "bar").len(), 2 * groups(form));
+        let rects = boxes(&svg, "form");
+        for (i, one) in &rects {
+            for (j, other) in rects.iter().filter(|(j, _)| is_before(&scene.order, *i, *j)) {
+                let (one, other) = (edges(one), edges(other));
+                assert!(one[2] < other[0] || one[3] < other[1], "{i} {j} {}", scene.form_text);
+            }
+        }
     }
 }
 

@@ -18,7 +18,8 @@ pub struct Layered {
     pub lines: Vec<Vec<usize>>,
 }
 
-const ROUNDS: usize = 24;
+/// Sweeps through the layers, forth and back in turn.
+const SWEEPS: usize = 24;
 
 impl Layered {
     /// The goals in their layers, and these lines, arranged.
@@ -69,8 +70,8 @@ impl Layered {
 
     fn arrange(&mut self) {
         let mut best = (self.crossings(), self.layers.clone());
-        for round in 0..ROUNDS {
-            self.sweep(round % 2 == 0);
+        for sweep in 0..SWEEPS {
+            self.sweep(sweep % 2 == 0);
             self.exchange();
             let crossings = self.crossings();
             if crossings < best.0 {

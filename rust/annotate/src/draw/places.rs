@@ -3,6 +3,7 @@
 
 use super::layers::{Layered, Node};
 
+/// Times each way through the layers, for each kind of pull.
 const ROUNDS: usize = 200;
 
 /// The places nearest to those wanted, by least squares with weights, of which each is at least
@@ -17,8 +18,9 @@ fn apart(wanted: &[(f64, f64)], distances: &[f64]) -> Vec<f64> {
             offsets[node] = offsets[node - 1] + distances[node - 1];
         }
         let mut block = (weight * (place - offsets[node]), *weight, 1);
-        while let Some(last) = blocks.pop_if(|last| last.0 / last.1 >= block.0 / block.1) {
+        while let Some(last) = blocks.last().filter(|last| last.0 / last.1 >= block.0 / block.1) {
             block = (block.0 + last.0, block.1 + last.1, block.2 + last.2);
+            blocks.pop();
         }
         blocks.push(block);
     }

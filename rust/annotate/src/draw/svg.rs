@@ -29,7 +29,7 @@ pub struct Font {
 }
 
 impl Font {
-    /// A character's width: exact to a tenth for letters of one width, else a large mean.
+    /// A character's width: that of fonts of one width, else more than a mean.
     pub fn advance(self) -> f64 {
         self.size * if self.mono || !self.bold { 0.605 } else { 0.75 }
     }
@@ -102,6 +102,15 @@ impl Svg {
         self.put(format_args!(
             "<circle cx=\"{x}\" cy=\"{y}\" r=\"5\" fill=\"{fill}\" stroke=\"{INK}\" \
              stroke-width=\"1.5\"/>"
+        ));
+    }
+
+    /// An arrow head to the right with its tip there.
+    pub fn head(&mut self, tip: Point) {
+        let (x, y) = self.place(tip.x - HEAD, tip.y);
+        let half = HEAD / 2.0;
+        self.put(format_args!(
+            "<path d=\"M{x} {y}v-{half}l{HEAD} {half}l-{HEAD} {half}z\" fill=\"{GREY}\"/>"
         ));
     }
 
