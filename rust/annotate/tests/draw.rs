@@ -209,6 +209,7 @@ fn boxes_stand_apart_and_inside() {
         let svg = draw::svg(&scene);
         let view: Vec<f64> =
             attribute(&svg, "viewBox").split(' ').map(|side| side.parse().unwrap()).collect();
+        assert!(view[2] < 4000.0 && view[3] < 4000.0, "{view:?}");
         let rects: Vec<[f64; 4]> = elements(&svg, "box").iter().map(|rect| edges(rect)).collect();
         for (place, rect) in rects.iter().enumerate() {
             assert!(rect[0] >= 0.0 && rect[1] >= 0.0 && rect[2] <= view[2] && rect[3] <= view[3]);

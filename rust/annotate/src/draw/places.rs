@@ -28,16 +28,6 @@ fn apart(wanted: &[(f64, f64)], distances: &[f64]) -> Vec<f64> {
     shared.zip(&offsets).map(|(place, offset)| place + offset).collect()
 }
 
-/// The lines that place a node: those on one side of it, or on both, or on both with less pull the
-/// longer they go across, by which few lines bend, and these much.
-#[derive(Clone, Copy, PartialEq)]
-enum Side {
-    Before,
-    Behind,
-    Both,
-    Straight,
-}
-
 /// The room that nodes take across.
 #[derive(Clone, Copy)]
 pub struct Room {
@@ -59,34 +49,34 @@ struct Across<'a> {
 impl Across<'_> {
     /// The place that a node's neighbours want for it, with its weight. A line pulls harder if it
     /// is the only one on its side of a node, hardest if at both ends: so chains of goals and long
-    /// lines are straight.
-    fn wanted(&self, node: usize, side: Side) -> (f64, f64) {
+    /// lines are straight. If `few`, a line pulls less the longer it goes across: then few lines
+    /// bend, and these much.
+    fn wanted(&self, node: usize, few: bool) -> (f64, f64) {
         let Node { before, behind, .. } = &self.layered.nodes[node];
-        // A weak pull to where it stands settles a node without neighbours.
-        let mut sum = (0.001 * self.places[node], 0.001);
+        // A weak pull to the middle, 0, keeps what no line joins together.
+        let mut sum = (0.0, 0.0005);
         let mut add = |near: usize, here: usize, there: usize| {
+            let far = (self.places[near] - self.places[node]).abs();
             let pull = match (here, there) {
                 (1, 1) => 60.0,
                 (1, _) | (_, 1) => 4.0,
                 _ => 1.0,
-            };
-            let far = (self.places[near] - self.places[node]).abs();
-            let pull = if side == Side::Straight { pull / far.max(3.0) } else { pull };
+            } / if few { far.max(3.0) } else { 1.0 };
             sum = (sum.0 + pull * self.places[near], sum.1 + pull);
         };
-        for near in before.iter().filter(|_| side != Side::Behind) {
+        for near in before {
             add(*near, before.len(), self.layered.nodes[*near].behind.len());
         }
-        for near in behind.iter().filter(|_| side != Side::Before) {
+        for near in behind {
             add(*near, behind.len(), self.layered.nodes[*near].before.len());
         }
         (sum.0 / sum.1, sum.1)
     }
 
-    /// Moves the nodes of a layer to where their neighbours on this side want them.
-    fn settle(&mut self, layer: usize, side: Side, room: Room) {
+    /// Moves the nodes of a layer to where their neighbours want them.
+    fn settle(&mut self, layer: usize, few: bool, room: Room) {
         let nodes = &self.layered.layers[layer];
-        let wanted: Vec<_> = nodes.iter().map(|node| self.wanted(*node, side)).collect();
+        let wanted: Vec<_> = nodes.iter().map(|node| self.wanted(*node, few)).collect();
         let distance = |pair: &[usize]| match (pair[0] < self.goals, pair[1] < self.goals) {
             (true, true) => room.goal + room.boxes,
             (false, false) => room.lines,
@@ -102,11 +92,10 @@ impl Across<'_> {
 /// The middle of each node across.
 pub fn places(layered: &Layered, goals: usize, room: Room) -> Vec<f64> {
     let mut across = Across { layered, goals, places: vec![0.0; layered.nodes.len()] };
-    let turns = [[Side::Before, Side::Behind], [Side::Both; 2], [Side::Straight; 2]];
-    for [forth, back] in turns {
+    for few in [false, true] {
         for _ in 0..ROUNDS {
-            (0..layered.layers.len()).for_each(|layer| across.settle(layer, forth, room));
-            (0..layered.layers.len()).rev().for_each(|layer| across.settle(layer, back, room));
+            (0..layered.layers.len()).for_each(|layer| across.settle(layer, few, room));
+            (0..layered.layers.len()).rev().for_each(|layer| across.settle(layer, few, room));
         }
     }
     across.places

@@ -19,6 +19,9 @@ pub const PALE_MARK: &str = "#ffe8d6";
 /// The length of an arrow head, by which a line ends before its box.
 pub const HEAD: f64 = 8.0;
 
+/// For how much of its way a bend keeps near the direction of its ends.
+const BEND: f64 = 0.36;
+
 /// A text's look: its size in px, letters of one width or not, bold or not, its colour.
 #[derive(Clone, Copy)]
 pub struct Font {
@@ -117,14 +120,14 @@ impl Svg {
     /// A text with its start, or its middle, at x.
     pub fn text(&mut self, x: f64, y: f64, text: &str, font: Font, middle: bool) {
         let (x, y) = self.place(x, y);
-        let family = if font.mono { MONO } else { SANS };
+        let family = if font.mono { String::new() } else { format!(" font-family=\"{SANS}\"") };
         let weight = if font.bold { " font-weight=\"bold\"" } else { "" };
         let anchor = if middle { " text-anchor=\"middle\"" } else { "" };
         let Font { size, colour, .. } = font;
         let text = escaped(text);
         self.put(format_args!(
-            "<text x=\"{x}\" y=\"{y}\" font-family=\"{family}\" font-size=\"{size}\"{weight}\
-             {anchor} fill=\"{colour}\">{text}</text>"
+            "<text x=\"{x}\" y=\"{y}\"{family} font-size=\"{size}\"{weight}{anchor} \
+             fill=\"{colour}\">{text}</text>"
         ));
     }
 
@@ -162,11 +165,11 @@ impl Svg {
         for (step, pair) in points.windows(2).enumerate() {
             let (from, to) = (pair[0], pair[1]);
             let (x, y) = self.place(to.x, to.y);
-            let middle = Point { x: (from.x + to.x) / 2.0, y: (from.y + to.y) / 2.0 };
+            let (right, down) = (BEND * (to.x - from.x), BEND * (to.y - from.y));
             let (one, two) = if rightwards {
-                (self.place(middle.x, from.y), self.place(middle.x, to.y))
+                (self.place(from.x + right, from.y), self.place(to.x - right, to.y))
             } else {
-                (self.place(from.x, middle.y), self.place(to.x, middle.y))
+                (self.place(from.x, from.y + down), self.place(to.x, to.y - down))
             };
             let written = match step % 2 {
                 0 => write!(data, "C{} {} {} {} {x} {y}", one.0, one.1, two.0, two.1),
@@ -189,7 +192,8 @@ impl Svg {
         };
         format!(
             "<svg xmlns=\"http://www.w3.org/2000/svg\" width=\"{width}\" height=\"{height}\" \
-             viewBox=\"0 0 {width} {height}\" role=\"img\">\n<title>{}</title>\n<defs>\n{}{}</defs>\n\
+             viewBox=\"0 0 {width} {height}\" font-family=\"{MONO}\" role=\"img\">\n\
+             <title>{}</title>\n<defs>\n{}{}</defs>\n\
              <rect width=\"{width}\" height=\"{height}\" fill=\"white\"/>\n{}</svg>\n",
             escaped(title),
             head("head", GREY),
