@@ -18,7 +18,8 @@ use crate::scene::Scene;
 
 /// Why a clause has no form.
 const NO_FORM: &str = "No fork-join expression has this order. Goals a, b, c and d show it: c waits \
-                       for a and b, d waits for b but not for a, and nothing else holds among them.";
+                       for a and b, d waits for b but not for a, and there is no other wait among \
+                       the four.";
 
 /// The sheet's line for the form.
 fn form_line(scene: &Scene) -> String {

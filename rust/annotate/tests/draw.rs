@@ -204,6 +204,23 @@ fn every_goal_stands_once_in_each_half() {
 }
 
 #[test]
+fn the_four_goals_and_their_relations_are_marked() {
+    for scene in scenes() {
+        let svg = draw::svg(&scene);
+        let relations = scene.four.map_or(Vec::new(), |[a, b, c, d]| vec![(a, c), (b, c), (b, d)]);
+        // In the graph and beside it.
+        assert_eq!(elements(&svg, "letter").len(), 2 * scene.four.map_or(0, |four| four.len()));
+        assert_eq!(elements(&svg, "relation").len(), relations.len());
+        for class in ["line", "through"] {
+            for (pair, path) in pairs(&svg, class).iter().zip(elements(&svg, class)) {
+                assert_eq!(path.contains("marked-head"), relations.contains(pair));
+                assert_eq!(path.contains("stroke-dasharray"), class == "through");
+            }
+        }
+    }
+}
+
+#[test]
 fn boxes_stand_apart_and_inside() {
     for scene in scenes() {
         let svg = draw::svg(&scene);
@@ -305,22 +322,49 @@ fn in_the_form_a_goal_stands_left_of_those_that_wait_or_in_a_row_above() {
 }
 
 #[test]
-fn texts_are_escaped_legible_and_fit_their_boxes() {
-    let order = vec![0b10, 0];
-    let goals = vec!["<&\">'(X,Y)".to_string(), "WWWWWWWWWWWWWWWWWWWWWWWW".to_string()];
+fn in_the_form_a_line_leads_to_each_box_and_one_away() {
+    let near = |a: &(f64, f64), b: (f64, f64)| (a.0 - b.0).abs() < 0.2 && (a.1 - b.1).abs() < 0.2;
+    for scene in scenes() {
+        let svg = draw::svg(&scene);
+        let lines: Vec<_> = elements(&svg, "flow").iter().map(|path| points(path)).collect();
+        for (goal, rect) in boxes(&svg, "form") {
+            let [left, top, right, bottom] = edges(rect);
+            let middle = (top + bottom) / 2.0;
+            let leads = |line: &Vec<_>| near(&line[line.len() - 1], (left, middle));
+            let leaves = |line: &Vec<_>| near(&line[0], (right, middle));
+            assert!(lines.iter().any(leads) && lines.iter().any(leaves), "{goal}");
+        }
+    }
+}
+
+#[test]
+fn texts_are_escaped_and_nothing_is_from_outside() {
+    let goals = vec!["<&\">'(X,Y)".to_string(), "next".to_string()];
     let title = "a < b & \"c\"\u{1}".to_string();
-    let svg = draw::svg(&Scene { title, ..scene(goals, order, "1,2".parse().ok()) });
+    let svg = draw::svg(&Scene { title, ..scene(goals, vec![0b10, 0], "1,2".parse().ok()) });
     assert!(svg.contains(">&lt;&amp;&quot;&gt;'(X,Y)</text>"));
     assert!(svg.contains("<title>a &lt; b &amp; &quot;c&quot;\u{fffd}</title>"));
-    for text in svg.lines().filter(|line| line.starts_with("<text")) {
-        assert!(number(text, "font-size") >= 11.0, "{text}");
-    }
-    // A number's cell, and the letters with room at both sides, each 0.6 of the size wide.
-    for (_, rect) in boxes(&svg, "graph").iter().chain(&boxes(&svg, "form")) {
-        assert!(number(rect, "width") >= 26.0 + 8.0 + 24.0 * 0.6 * 13.0 + 4.0);
-    }
     for outside in ["<script", "<style", "href", "@import"] {
         assert!(!svg.contains(outside));
+    }
+}
+
+#[test]
+fn texts_are_legible_and_fit() {
+    let goals = vec!["WWWWWWWWWWWWWWWWWWWWWWWW".to_string()];
+    let title = "a title of many words ".repeat(20);
+    let svg = draw::svg(&Scene { title, ..scene(goals, vec![0], "1".parse().ok()) });
+    let end = number(&svg, "width");
+    // A letter is about 0.6 of its size wide.
+    for text in svg.lines().filter(|line| line.starts_with("<text")) {
+        let size = number(text, "font-size");
+        assert!(size >= 11.0, "{text}");
+        let letters = text.split(['<', '>']).nth(2).map_or(0, |text| text.chars().count());
+        assert!(number(text, "x") + 0.6 * size * letters as f64 <= end, "{text}");
+    }
+    // A cell for the number, and the letters with room at both sides.
+    for (_, rect) in boxes(&svg, "graph").iter().chain(&boxes(&svg, "form")) {
+        assert!(number(rect, "width") >= 26.0 + 8.0 + 24.0 * 0.6 * 13.0 + 4.0);
     }
 }
 
@@ -375,7 +419,7 @@ d 4 close(D)  2
 form none 1 2 3 4
 
 No fork-join expression has this order. Goals a, b, c and d show it: c waits for a and b, d waits
-for b but not for a, and nothing else holds among them.
+for b but not for a, and there is no other wait among the four.
 
   a 1 trim(A)   --------->  c 3 braid(C)
                       __/
