@@ -29,6 +29,11 @@ fn form_line(scene: &Scene) -> String {
     }
 }
 
+/// The letter of a goal among the four of a clause without a form.
+fn letter(scene: &Scene, goal: u32) -> Option<char> {
+    "abcd".chars().zip(scene.four?).find(|(_, one)| *one == goal).map(|(letter, _)| letter)
+}
+
 /// A place of a picture, in px from its upper left corner, or from that of a part.
 #[derive(Clone, Copy)]
 struct Point {

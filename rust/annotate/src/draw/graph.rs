@@ -33,17 +33,17 @@ pub fn graph(order: &[u32], extra: &[(u32, u32)], size: Size) -> Graph {
     let direct = waits::direct(order);
     let lines: Vec<(u32, u32)> = direct.iter().chain(extra).copied().collect();
     let layered = Layered::new(&waits::layers(order), &lines);
-    let plan = |rightwards| Plan::new(&layered, order.len(), size, rightwards);
-    let draw = |plan: Plan| plan.graph(&lines, direct.len());
-    let wide = draw(plan(true));
+    let draw =
+        |rightwards| Plan::new(&layered, order.len(), size, rightwards).graph(&lines, direct.len());
+    let wide = draw(true);
     if wide.size.width <= WIDE {
         return wide;
     }
-    let high = draw(plan(false));
+    let high = draw(false);
     if high.size.larger() < 0.8 * wide.size.larger() { high } else { wide }
 }
 
-/// Places along the layers' sequence and across it.
+/// Where the nodes stand along the sequence of layers and across it.
 struct Plan<'a> {
     layered: &'a Layered,
     goals: usize,
@@ -120,6 +120,7 @@ impl Plan<'_> {
         }
     }
 
+    /// Where a line leaves a goal, enters and leaves each layer that it passes, and ends.
     fn points(&self, line: usize) -> Vec<Point> {
         let nodes = &self.layered.lines[line];
         let mut points = Vec::new();

@@ -1,18 +1,21 @@
 //! The page: the dependency graph at the left, the fork-join form at the right.
 
 use super::svg::{Font, INK, MARK, PALE, PALE_MARK, Pen, Svg};
-use super::{Point, Rect, Size, lines};
+use super::{Point, Rect, Size, letter, lines};
 use crate::scene::Scene;
 
 const MARGIN: f64 = 24.0;
 /// Between the two halves.
 const GUTTER: f64 = 56.0;
-/// From one line of text to the next.
+/// From one line of text to the next, and of the title.
 const LEADING: f64 = 18.0;
+const TITLE_LEADING: f64 = 24.0;
+/// A longer title is cut.
+const TITLE_COLUMNS: usize = 80;
 /// The width of a box's cell for the goal's number, and of that for a mark.
 const CELL: f64 = 26.0;
 const BOX_HEIGHT: f64 = 28.0;
-/// Below this width a half's lines of text are not cut.
+/// A line of text is not cut below this width.
 const TEXT_WIDTH: f64 = 340.0;
 
 const TITLE: Font = Font { size: 18.0, mono: false, bold: true, colour: INK };
@@ -47,8 +50,8 @@ pub const MARKED: Pen = Pen { colour: MARK, width: 2.6, dashed: false, head: tru
 /// ```
 pub fn svg(scene: &Scene) -> String {
     let mut page = Page { svg: Svg::new(), scene, size: box_size(scene) };
-    let title = lines(&scene.title, 80, |sign| sign == ' ');
-    let top = MARGIN + 12.0 + title.len() as f64 * 24.0;
+    let title = lines(&scene.title, TITLE_COLUMNS, |sign| sign == ' ');
+    let top = MARGIN + 12.0 + title.len() as f64 * TITLE_LEADING;
     page.svg.origin = Point { x: MARGIN, y: top };
     let left = page.graph_half();
     page.svg.origin.x += left.width + GUTTER;
@@ -59,7 +62,7 @@ pub fn svg(scene: &Scene) -> String {
     page.svg.origin = Point { x: MARGIN, y: MARGIN };
     let longest = title.iter().map(|line| line.chars().count()).max().unwrap_or(0);
     for (row, line) in (0..).zip(&title) {
-        page.svg.text(0.0, 16.0 + 24.0 * f64::from(row), line, TITLE, false);
+        page.svg.text(0.0, 16.0 + TITLE_LEADING * f64::from(row), line, TITLE, false);
     }
     let inner = (left.width + GUTTER + right.width).max(longest as f64 * TITLE.advance());
     let size = Size { width: inner + 2.0 * MARGIN, height: top + height + MARGIN };
@@ -99,8 +102,7 @@ impl Page<'_> {
 
     /// The box of a goal, with a letter if it is one of the four.
     pub fn goal(&mut self, half: &str, goal: u32, rect: Rect) {
-        let four = self.scene.four.unwrap_or_default();
-        let letter = ["a", "b", "c", "d"].into_iter().zip(four).find(|(_, one)| *one == goal);
+        let letter = letter(self.scene, goal);
         let (fill, pen, cell) = match letter {
             Some(_) => (PALE_MARK, Pen { head: false, ..MARKED }, PALE_MARK),
             None => ("white", BORDER, PALE),
@@ -114,11 +116,11 @@ impl Page<'_> {
         self.svg.text(corner.x + CELL / 2.0, base, &goal.to_string(), NUMBER, true);
         let text = &self.scene.goals[goal as usize - 1];
         self.svg.text(corner.x + CELL + 8.0, base, text, GOAL, false);
-        if let Some((letter, _)) = letter {
+        if let Some(letter) = letter {
             let x = corner.x + size.width - CELL;
             let cell = Rect { corner: Point { x, ..corner }, ..number };
             self.svg.rect("class=\"letter\"", cell, MARK, pen);
-            self.svg.text(x + CELL / 2.0, base, letter, LETTER, true);
+            self.svg.text(x + CELL / 2.0, base, &letter.to_string(), LETTER, true);
         }
     }
 }

@@ -16,7 +16,7 @@ pub const PALE: &str = "#e6e9ee";
 pub const MARK: &str = "#c44e00";
 pub const PALE_MARK: &str = "#ffe8d6";
 
-/// The length of an arrow head, by which a line ends before its box.
+/// The length and breadth of an arrow head; so far before its box a line ends.
 pub const HEAD: f64 = 8.0;
 
 /// For how much of its way a bend keeps near the direction of its ends.
@@ -59,7 +59,7 @@ fn px(number: f64) -> f64 {
     (number * 10.0).round() / 10.0 + 0.0
 }
 
-/// A text for XML; a character that XML cannot have becomes the mark for such.
+/// A text for XML; a character that XML cannot have becomes U+FFFD.
 fn escaped(text: &str) -> String {
     let mut out = String::new();
     for sign in text.chars() {
@@ -100,6 +100,7 @@ impl Svg {
         ));
     }
 
+    /// The start or the end of the fork-join picture.
     pub fn dot(&mut self, x: f64, y: f64, fill: &str) {
         let (x, y) = self.place(x, y);
         self.put(format_args!(
@@ -183,11 +184,12 @@ impl Svg {
     /// The whole document.
     pub fn document(self, title: &str, size: Size) -> String {
         let (width, height) = (size.width.ceil(), size.height.ceil());
+        let half = HEAD / 2.0;
         let head = |name: &str, colour: &str| {
             format!(
                 "<marker id=\"{name}\" markerUnits=\"userSpaceOnUse\" markerWidth=\"{HEAD}\" \
-                 markerHeight=\"8\" refX=\"0\" refY=\"4\" orient=\"auto\">\
-                 <path d=\"M0 0L{HEAD} 4L0 8Z\" fill=\"{colour}\"/></marker>\n"
+                 markerHeight=\"{HEAD}\" refX=\"0\" refY=\"{half}\" orient=\"auto\">\
+                 <path d=\"M0 0L{HEAD} {half}L0 {HEAD}Z\" fill=\"{colour}\"/></marker>\n"
             )
         };
         format!(

@@ -1,6 +1,6 @@
 //! The picture of a clause for a terminal: plain ASCII, at most 100 columns wide.
 
-use super::{NO_FORM, form_line, lines, waits};
+use super::{NO_FORM, form_line, letter, lines, waits};
 use crate::scene::Scene;
 use lfj::Expr;
 
@@ -61,12 +61,6 @@ fn goal(scene: &Scene, goal: u32) -> String {
     format!("{goal:>digits$} {}", scene.goals[goal as usize - 1])
 }
 
-/// The letter of one of the four goals of a clause without a form, else a blank.
-fn letter(scene: &Scene, goal: u32) -> char {
-    let four = scene.four.unwrap_or_default();
-    "abcd".chars().zip(four).find(|(_, one)| *one == goal).map_or(' ', |(letter, _)| letter)
-}
-
 /// Who waits directly for whom.
 fn table(scene: &Scene, out: &mut String) {
     let count = scene.goals.len() as u32;
@@ -79,7 +73,8 @@ fn table(scene: &Scene, out: &mut String) {
         let before: Vec<String> = before.map(|(goal, _)| goal.to_string()).collect();
         let before = if before.is_empty() { "-".to_string() } else { before.join(" ") };
         let name = goal(scene, number);
-        let line = format!("{} {name:longest$}  {before}", letter(scene, number));
+        let letter = letter(scene, number).unwrap_or(' ');
+        let line = format!("{letter} {name:longest$}  {before}");
         put(out, &line, &" ".repeat(longest + 4));
     }
 }
@@ -108,9 +103,9 @@ fn tree(scene: &Scene, form: &Expr, first: &str, rest: &str, out: &mut String) {
 fn no_form(scene: &Scene, out: &mut String) {
     put(out, NO_FORM, "");
     let Some(four) = scene.four else { return };
-    let [a, b, c, d] = four.map(|one| format!("{} {}", letter(scene, one), goal(scene, one)));
+    let [a, b, c, d] = four.map(|one| goal(scene, one));
     let left = a.len().max(b.len());
-    *out += &format!("\n  {a:left$}  --------->  {c}\n");
-    *out += &format!("  {:left$}        __/\n  {:left$}     __/\n", "", "");
-    *out += &format!("  {b:left$}  --------->  {d}\n");
+    *out += &format!("\n  a {a:left$}  --------->  c {c}\n");
+    *out += &format!("    {:left$}        __/\n    {:left$}     __/\n", "", "");
+    *out += &format!("  b {b:left$}  --------->  d {d}\n");
 }
