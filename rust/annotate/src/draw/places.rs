@@ -53,8 +53,9 @@ impl Across<'_> {
     /// bend, and these much.
     fn wanted(&self, node: usize, few: bool) -> (f64, f64) {
         let Node { before, behind, .. } = &self.layered.nodes[node];
-        // A weak pull to the middle, 0, keeps what no line joins together.
-        let mut sum = (0.0, 0.0005);
+        // A weak pull to the middle, 0, keeps what no line joins together; later it stays there.
+        let start = if few { self.places[node] } else { 0.0 };
+        let mut sum = (0.0005 * start, 0.0005);
         let mut add = |near: usize, here: usize, there: usize| {
             let far = (self.places[near] - self.places[node]).abs();
             let pull = match (here, there) {
