@@ -10,6 +10,7 @@ mod no_form;
 pub mod places;
 mod refused;
 pub mod split;
+pub mod stricter;
 mod waits;
 mod words;
 
@@ -21,6 +22,21 @@ use words::{Named, Page, count, list};
 const FEW_PAIRS: usize = 12;
 
 /// What the annotator says of the clause, in words.
+///
+/// ```
+/// use annotate::{explain::explain, view::View};
+/// use lfj::Clause;
+///
+/// let clause = Clause::new(2).head([0, 1]).goal("half", [0]).goal("edge", [0, 1]);
+/// let names = ["Left", "Right"].map(String::from).to_vec();
+/// let words = explain(&View::new("a clause", clause.record()?, names));
+/// assert!(words.contains("  First 1 half, then 2 edge.\n"));
+/// assert!(words.contains("  - 1 half: both have Left, which is not ground at 1 half\n"));
+///
+/// let words = explain(&View::new("a cut record", clause.record()?[..40].to_vec(), Vec::new()));
+/// assert!(words.contains("Byte 40 would be the 4th byte of the variable set of goal 2"));
+/// # Ok::<(), lfj::ClauseError>(())
+/// ```
 pub fn explain(view: &View) -> String {
     let mut page = Page::default();
     match &view.clause {

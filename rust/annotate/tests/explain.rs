@@ -2,10 +2,11 @@
 //! against the proved library.
 
 use annotate::explain::causes::{between, causes, direct_waits};
-use annotate::explain::{explain, mel, new_facts, new_waits, places, split};
+use annotate::explain::places::{Field, Part, field_at};
+use annotate::explain::{explain, mel, new_facts, new_waits, split};
 use annotate::view::View;
+use annotate::{hex, input};
 use lfj::{Clause, Expr, Kind, Refusal, Verdict};
-use places::Part;
 use std::collections::BTreeSet;
 use std::fs;
 use std::path::{Path, PathBuf};
@@ -14,32 +15,23 @@ fn root() -> PathBuf {
     Path::new(env!("CARGO_MANIFEST_DIR")).join("../..")
 }
 
-/// A sample, with the names that its description gives the variables.
 fn sample(name: &str) -> View {
-    let record = fs::read(root().join(format!("samples/{name}.lfj"))).unwrap();
-    let text = fs::read_to_string(root().join(format!("samples/{name}.txt"))).unwrap();
-    let names = text.lines().filter_map(|line| line.strip_prefix("variables "));
-    View::new(name, record, names.flat_map(str::split_whitespace).map(String::from).collect())
+    let file = root().join(format!("samples/{name}.txt"));
+    let input = input::read(&file.display().to_string()).unwrap();
+    View::new(&input.name, input.record, input.names)
 }
 
-/// The files of a folder with this ending, as text.
-fn texts(folder: &str) -> Vec<String> {
+/// The files of a folder with this ending.
+fn files(folder: &str, ending: &str) -> Vec<PathBuf> {
     let files = fs::read_dir(root().join(folder)).unwrap().map(|file| file.unwrap().path());
-    let texts = files.filter(|path| path.extension().is_some_and(|end| end == "txt"));
-    texts.map(|path| fs::read_to_string(path).unwrap()).collect()
-}
-
-fn unhex(word: &str) -> Option<Vec<u8>> {
-    let digits: Option<Vec<u8>> =
-        word.chars().map(|digit| digit.to_digit(16).map(|digit| digit as u8)).collect();
-    let digits = digits.filter(|digits| digits.len() % 2 == 0)?;
-    Some(digits.chunks(2).map(|two| two[0] << 4 | two[1]).collect())
+    files.filter(|path| path.extension().is_some_and(|end| end == ending)).collect()
 }
 
 /// The lines of the kit, question and answer.
 fn cases() -> Vec<(String, String)> {
-    let files = [texts("kit/cases"), texts("kit/vectors")].concat();
-    let lines = files.iter().flat_map(|text| text.lines()).filter(|line| !line.starts_with('#'));
+    let files = [files("kit/cases", "txt"), files("kit/vectors", "txt")].concat();
+    let texts: Vec<String> = files.iter().map(|file| fs::read_to_string(file).unwrap()).collect();
+    let lines = texts.iter().flat_map(|text| text.lines()).filter(|line| !line.starts_with('#'));
     let cases = lines.filter_map(|line| line.split_once(" = "));
     cases.map(|(question, answer)| (question.to_string(), answer.to_string())).collect()
 }
@@ -48,10 +40,8 @@ fn cases() -> Vec<(String, String)> {
 fn records() -> BTreeSet<Vec<u8>> {
     let cases = cases();
     let words = cases.iter().flat_map(|(question, _)| question.split(' '));
-    let mut records: BTreeSet<Vec<u8>> = words.filter_map(unhex).collect();
-    let samples = fs::read_dir(root().join("samples")).unwrap().map(|file| file.unwrap().path());
-    let samples = samples.filter(|path| path.extension().is_some_and(|end| end == "lfj"));
-    records.extend(samples.map(|path| fs::read(path).unwrap()));
+    let mut records: BTreeSet<Vec<u8>> = words.filter_map(|word| hex::unhex(word).ok()).collect();
+    records.extend(files("samples", "lfj").iter().map(|file| fs::read(file).unwrap()));
     records
 }
 
@@ -111,6 +101,124 @@ fn induced(expression: &Expr, rows: &mut [u32]) {
 }
 
 #[test]
+fn a_clause_with_a_form() {
+    let expected = r"half-motif: 3 goals, 3 variables, a record of version 1.
+
+What is known
+  In the head: Left and Right.
+  Ground from the start: none.
+  Known to be independent: Left and Right, Left and Thread.
+  The goals and their variables:
+    1 half: Left
+    2 edge: Right and Thread
+    3 join: Left and Thread
+
+The form
+  (1&2),3
+  (half & edge), join
+  First 1 half and 2 edge side by side, then 3 join.
+
+Who waits for whom
+  1 half waits for no goal.
+  2 edge waits for no goal.
+  3 join waits for
+    - 1 half: both have Left, which is not ground at 1 half
+    - 2 edge: both have Thread, which is not ground at 2 edge
+
+The MEL annotation
+  (half & edge), join
+  2 stages, one after another.
+  Stage 1: 1 half and 2 edge side by side, without a check.
+  Stage 2: 3 join alone.
+";
+    assert_eq!(explain(&sample("half-motif")), expected);
+}
+
+#[test]
+fn a_clause_without_a_form() {
+    let expected = r"no-form: 4 goals, 4 variables, a record of version 1.
+
+What is known
+  In the head: A, B, C and D.
+  Ground from the start: none.
+  Known to be independent: A and B, A and D, C and D.
+  The goals and their variables:
+    1 trim(A): A
+    2 picot(B): B
+    3 braid(C): C
+    4 close(D): D
+
+The form
+  No fork-join expression has this order. Four goals show it:
+  - 3 braid(C) waits for 1 trim(A): A and C are not known to be independent
+  - 3 braid(C) waits for 2 picot(B): B and C are not known to be independent
+  - 4 close(D) waits for 2 picot(B): B and D are not known to be independent
+  - no order between 1 trim(A) and 2 picot(B); 1 trim(A) and 4 close(D); 3 braid(C) and 4 close(D)
+  An expression that keeps these three waits always has at least one more among the four. MEL runs
+  the clause anyway; its annotation stands below.
+
+What a designer can do
+  Take a wait away by facts, if they are true; what is ground from a goal on is so just left of it
+  already:
+    so that 3 braid(C) does not wait for 1 trim(A):
+      - if A and C are independent: the form is 1&(2,(3&4)).
+      - if A is ground at every goal: the form is 1&(2,(3&4)).
+      - if C is ground at every goal: the form is 1&(2,4)&3.
+    so that 3 braid(C) does not wait for 2 picot(B):
+      - if B and C are independent: the form is (1,3)&(2,4).
+      - if B is ground from 2 picot(B) on: the form is (1,3)&2&4, in a record of version 2.
+      - if C is ground from 2 picot(B) on: the form is (1,3)&(2,4), in a record of version 2.
+    so that 4 close(D) does not wait for 2 picot(B):
+      - if B and D are independent: the form is ((1&2),3)&4.
+      - if B is ground from 2 picot(B) on: the form is (1,3)&2&4, in a record of version 2.
+      - if D is ground from 2 picot(B) on: the form is ((1&2),3)&4, in a record of version 2.
+  Or use an expression that keeps every wait and adds to them; each wait more is two goals that no
+  longer run side by side:
+    - 2,((1,3)&4): 1 wait more, 1 trim(A) for 2 picot(B)
+    - (1&2),(3&4): 1 wait more, 4 close(D) for 1 trim(A)
+    - (1&(2,4)),3: 1 wait more, 3 braid(C) for 4 close(D)
+  Or split the clause; then every goal behind the split waits for all goals before it:
+    - behind 1 trim(A): 1 and then 2,(3&4)
+    - behind 2 picot(B): 1&2 and then 3&4
+    - behind 3 braid(C): (1&2),3 and then 4
+
+Who waits for whom
+  1 trim(A) waits for no goal.
+  2 picot(B) waits for no goal.
+  3 braid(C) waits for
+    - 1 trim(A): A and C are not known to be independent
+    - 2 picot(B): B and C are not known to be independent
+  4 close(D) waits for
+    - 2 picot(B): B and D are not known to be independent
+
+The MEL annotation
+  (indep(A,C), indep(B,C), indep(B,D) => trim(A) & picot(B) & braid(C) & close(D))
+  1 stage. The checks of a stage are made at run time, before it starts: if all of them hold, its
+  goals run side by side, else in sequence.
+  Stage 1: 1 trim(A), 2 picot(B), 3 braid(C) and 4 close(D), 3 checks: A and C, B and C, B and D are
+           independent.
+";
+    assert_eq!(explain(&sample("no-form")), expected);
+}
+
+#[test]
+fn a_refused_record() {
+    let expected = r"refused-cut: refused 7 61.
+
+What is wrong
+  Byte 61 would be the 3rd byte of the text of goal 3, bytes 59 to 62; it is past the end, the
+  record has 61 bytes. The text of goal 3 has 4 bytes by its length byte, byte 58; `jo` is there,
+  and 2 bytes are missing.
+
+The bytes around it
+    32  04 68 61 6c 66 00 00 00 00 00 00 00 06 04 65 64  .half.........ed
+    48  67 65 00 00 00 00 00 00 00 05 04 6a 6f           ge.........jo
+                                               ^^ byte 61
+";
+    assert_eq!(explain(&sample("refused-cut")), expected);
+}
+
+#[test]
 fn direct_waits_closed_are_the_order_and_every_wait_has_a_reason() {
     for view in views() {
         let clause = view.clause.as_ref().unwrap();
@@ -138,7 +246,7 @@ fn direct_waits_are_those_of_the_kit() {
         let words: Vec<&str> = question.split(' ').collect();
         let Some(at) = words.iter().position(|word| *word == "waits") else { continue };
         let Some(rows) = answer.strip_prefix("ok ") else { continue };
-        let clause = Clause::of(&unhex(words[at + 2]).unwrap()).unwrap();
+        let clause = Clause::of(&hex::unhex(words[at + 2]).unwrap()).unwrap();
         let row = |row: &str| u32::from_str_radix(row, 16).unwrap();
         let rows: Vec<u32> = rows.split(' ').skip(1).map(row).collect();
         assert_eq!(direct_waits(&clause), rows, "{question}");
@@ -214,12 +322,9 @@ fn offered_expressions_keep_every_wait() {
             assert!(rows.iter().zip(&view.order).all(|(row, less)| row & less == *less));
             let verdict = lfj::check(&view.record, format!("{form:#}").as_bytes()).unwrap();
             let Verdict::Differs(i, j) = verdict else { panic!("the clause has no form") };
-            let (i, j) = (i.min(j) as u32, i.max(j) as u32);
-            assert!(stricter.lost(&view.order).contains(&(i, j)));
+            assert!(stricter.beyond(&view.order).contains(&(i as u32, j as u32)));
         }
-        let unordered = pairs(view.order.len() as u32)
-            .filter(|(one, other)| one < other && !has(&view.order, *one, *other));
-        assert!(!offers.is_empty() || unordered.count() > 255);
+        assert!(!offers.is_empty());
     }
 }
 
@@ -254,6 +359,208 @@ fn a_few_parts_are_each_as_long_as_can_be() {
         let few = split::in_few(&clause);
         for (from, to, _) in &few[..few.len() - 1] {
             assert!(split::form_of(&clause, *from, to + 1).is_none());
+        }
+    }
+}
+
+#[test]
+fn an_order_that_no_record_lists_is_not_tried() {
+    // The first four goals have no form; beside them stand 14 pairs of goals, all independent.
+    let mut clause = Clause::new(18).head(0..18);
+    for variable in 0..4 {
+        clause = clause.goal("four", [variable]);
+    }
+    for variable in 4..18 {
+        clause = clause.goal("front", [variable]).goal("behind", [variable]);
+    }
+    for (one, other) in (0..18).flat_map(|one| (one + 1..18).map(move |other| (one, other))) {
+        if ![(0, 2), (1, 2), (1, 3)].contains(&(one, other)) {
+            clause = clause.independent(one, other);
+        }
+    }
+    let view = View::new("clause", clause.record().unwrap(), Vec::new());
+    assert_eq!(view.form.as_ref().unwrap_err().goals, [1, 2, 3, 4]);
+    assert!(new_waits::offers(&view.order, [1, 2, 3, 4]).is_empty());
+    assert!(explain(&view).contains("not tried: a record cannot list so many"));
+}
+
+/// The record with a byte changed.
+fn with(record: &[u8], place: usize, value: usize) -> Vec<u8> {
+    let mut changed = record.to_vec();
+    changed[place] = value as u8;
+    changed
+}
+
+/// The first count, at this byte, with which the record is refused so.
+fn first_count(record: &[u8], place: usize, refusal: Refusal) -> usize {
+    let all = record[place] as usize;
+    let refused = |count: &usize| lfj::read(&with(record, place, *count)) == Err(refusal);
+    (1..=all).find(refused).unwrap()
+}
+
+/// Where a goal starts, by what the library says of a record with so many goals.
+fn start_of(record: &[u8], goal: usize) -> usize {
+    match goal {
+        1 => 24,
+        _ => match lfj::read(&with(record, 5, goal - 1)) {
+            Ok(_) => record.len(),
+            Err(refusal) => refusal.place as usize,
+        },
+    }
+}
+
+/// The part of a refused record that the library means, and words that have to name it.
+fn meant(record: &[u8], refusal: Refusal) -> (Part, String) {
+    // Without pairs, so that they cannot hide where a goal is refused.
+    let no_pairs = if record.len() > 7 { with(record, 7, 0) } else { Vec::new() };
+    let goal = || first_count(&no_pairs, 5, refusal);
+    let at = |part: fn(u32) -> Part, goal: usize| part(goal as u32);
+    let place = refusal.place as usize;
+    match refusal.kind() {
+        Kind::BadMark => (Part::Mark, "byte of the mark".into()),
+        Kind::BadVersion => (Part::Version, "byte of the version".into()),
+        Kind::BadGoalCount => (Part::GoalCount, "is the goal count".into()),
+        Kind::BadVariableCount => (Part::VariableCount, "is the variable count".into()),
+        Kind::BadHeaderSet if place == 8 => (Part::Head, "of the head set".into()),
+        Kind::BadHeaderSet => (Part::Ground, "of the ground set, bytes 16 to 23".into()),
+        Kind::BadGoalSet => (at(Part::Set, goal()), format!("variable set of goal {}", goal())),
+        Kind::BadGroundSet => {
+            (at(Part::GroundAt, goal()), format!("byte of the ground set of goal {}", goal()))
+        }
+        Kind::BadTicks => (at(Part::Ticks, goal()), format!("ticks of goal {}", goal())),
+        // 97 is no length, but a byte of a text.
+        Kind::BadGoalText => match lfj::read(&with(record, place, 97)) == Err(refusal) {
+            true => (at(Part::Length, goal()), format!("is the length byte of goal {}", goal())),
+            false => (at(Part::Text, goal()), format!("byte of the text of goal {}", goal())),
+        },
+        Kind::BadPair => {
+            let pair = first_count(record, 7, refusal);
+            (at(Part::Pair, pair), format!("is the first variable of pair {pair}"))
+        }
+        Kind::LeftOver => (Part::LeftOver, "the first behind the last field".into()),
+        kind => panic!("{kind:?} has a place past the end"),
+    }
+}
+
+#[test]
+fn the_field_of_a_refused_byte_is_named() {
+    for (record, refusal) in refused() {
+        let place = refusal.place as usize;
+        let Field { part, start, end } = field_at(&record, place).unwrap();
+        assert!((start..end).contains(&place));
+        if matches!(refusal.kind(), Kind::ShortRecord | Kind::CutOff) {
+            assert_eq!(place, record.len());
+            continue;
+        }
+        let (wanted, words) = meant(&record, refusal);
+        assert_eq!(part, wanted, "{refusal} {record:?}");
+        let explained = explain(&View::new("record", record.clone(), Vec::new()));
+        let value = record[place];
+        let words = [words, format!("its value is {value}, hexadecimal {value:02x}.")];
+        let line = explained.split_whitespace().collect::<Vec<_>>().join(" ");
+        assert!(words.iter().all(|words| line.contains(words)), "{words:?} {explained}");
+    }
+}
+
+#[test]
+fn a_cut_off_record_says_where() {
+    let mut halves = [0; 3];
+    for (record, refusal) in refused() {
+        if refusal.kind() != Kind::CutOff {
+            continue;
+        }
+        let explained = explain(&View::new("record", record.clone(), Vec::new()));
+        let line = explained.split_whitespace().collect::<Vec<_>>().join(" ");
+        let no_pairs = with(&record, 7, 0);
+        let (half, words) = match lfj::read(&no_pairs) == Err(refusal) {
+            false => (2, format!("it ends at pair {},", first_count(&record, 7, refusal))),
+            true => {
+                let goal = first_count(&no_pairs, 5, refusal);
+                let fixed = if record[4] == 1 { 9 } else { 19 };
+                let in_fixed = record.len() - start_of(&no_pairs, goal) < fixed;
+                match in_fixed {
+                    true => (0, format!("The fixed part of goal {goal} of {} (", record[5])),
+                    false => (1, format!("The text of goal {goal} has ")),
+                }
+            }
+        };
+        halves[half] += 1;
+        assert!(line.contains(&words), "{words} {explained}");
+        assert!(line.contains(&format!("the record has {} bytes.", record.len())), "{explained}");
+    }
+    assert!(halves.iter().all(|cases| *cases > 5), "{halves:?}");
+}
+
+#[test]
+fn each_refusal_has_a_sentence_of_its_own() {
+    let sentences = [
+        (1, vec!["The header alone has 24 bytes"]),
+        (2, vec!["the letters LFJ, is right"]),
+        (3, vec!["The version is"]),
+        (4, vec!["goals; 1 to 32 is right"]),
+        (5, vec!["variables; 0 to 64 is right"]),
+        (6, vec!["The head has", "not in the head;"]),
+        (7, vec!["The fixed part of", "by its length byte", "by its pair count"]),
+        (8, vec![". Goal "]),
+        (9, vec!["; 1 to 24 is right", "has to be 33 to 126"]),
+        (10, vec![". Pair "]),
+        (11, vec!["the record ends before it"]),
+        (18, vec!["what is ground stays so", "in neither the head nor an earlier goal"]),
+        (19, vec!["; 1 to 60000 is right"]),
+    ];
+    let mut met = BTreeSet::new();
+    for (record, refusal) in refused() {
+        let explained = explain(&View::new("record", record, Vec::new()));
+        let line = explained.split_whitespace().collect::<Vec<_>>().join(" ");
+        for (number, phrases) in &sentences {
+            let found = phrases.iter().filter(|phrase| line.contains(**phrase));
+            let own = refusal.number == *number;
+            assert_eq!(found.clone().count(), own as usize, "{number} {explained}");
+            met.extend(found);
+        }
+    }
+    let all: BTreeSet<&str> = sentences.iter().flat_map(|(_, phrases)| phrases.clone()).collect();
+    assert_eq!(met.into_iter().copied().collect::<BTreeSet<_>>(), all);
+}
+
+#[test]
+fn the_place_is_marked_below_its_byte() {
+    for (record, refusal) in refused() {
+        let place = refusal.place as usize;
+        let explained = explain(&View::new("record", record.clone(), Vec::new()));
+        let lines: Vec<&str> = explained.lines().collect();
+        let mark = lines.iter().position(|line| line.contains("^^")).unwrap();
+        assert!(lines[mark].ends_with(&format!("^^ byte {place}")));
+        let column = lines[mark].find("^^").unwrap();
+        let above = lines[mark - 1].get(column..column + 2).unwrap_or("").trim();
+        let byte = record.get(place).map(|byte| format!("{byte:02x}"));
+        assert_eq!(above, byte.unwrap_or_default(), "{explained}");
+    }
+}
+
+/// The record of each short sample, cut at every place and with each byte changed in a few ways.
+fn damaged() -> Vec<Vec<u8>> {
+    let mut damaged = Vec::new();
+    let samples = files("samples", "lfj").into_iter().map(|file| fs::read(file).unwrap());
+    for record in samples.filter(|record| record.len() < 200) {
+        for place in 0..record.len() {
+            damaged.push(record[..place].to_vec());
+            let value = record[place] as usize;
+            damaged.extend([0, 1, 255, value + 1, value ^ 4].map(|to| with(&record, place, to)));
+        }
+    }
+    damaged
+}
+
+#[test]
+fn every_record_is_explained() {
+    for record in records().into_iter().chain(damaged()) {
+        let explained = explain(&View::new("record", record, Vec::new()));
+        for line in explained.lines() {
+            let long = line.split(' ').any(|word| word.len() > 60);
+            assert!(long || line.chars().count() <= 100, "{line}");
+            assert!(line.chars().all(|sign| (' '..='~').contains(&sign)), "{line}");
+            assert_eq!(line, line.trim_end());
         }
     }
 }

@@ -173,7 +173,7 @@ fn impossible(named: &Named, facts: &[NewFacts]) -> String {
 
 /// Which facts would take away each of the waits, and what comes of it.
 pub fn in_words(page: &mut Page, named: &Named, order: &[u32], waits: &[(u32, u32)]) {
-    let mut any = false;
+    let mut forms = Vec::new();
     for &(from, to) in waits {
         page.paragraph(
             4,
@@ -183,14 +183,14 @@ pub fn in_words(page: &mut Page, named: &Named, order: &[u32], waits: &[(u32, u3
         let (good, bad) = ways(named.clause, order, from, to);
         for facts in &good {
             let (form, words) = tried(named, facts);
-            any |= form;
+            forms.push(form);
             page.paragraph(6, "- ", &format!("if {}: {words}", facts.in_words(named)));
         }
         if good.is_empty() {
             page.paragraph(6, "- ", &impossible(named, &bad));
         }
     }
-    if !any {
+    if !forms.is_empty() && !forms.contains(&true) {
         page.paragraph(4, "", "None of these alone gives a form.");
     }
 }

@@ -33,14 +33,15 @@ pub fn advice(page: &mut Page, named: &Named, order: &[u32], four: [u32; 4]) {
     page.paragraph(
         2,
         "",
-        "Take a wait away by facts, if they are true and the record may state them:",
+        "Take a wait away by facts, if they are true; what is ground from a goal on is so just left \
+         of it already:",
     );
     new_facts::in_words(page, named, order, &[(a, c), (b, c), (b, d)]);
     page.paragraph(
         2,
         "",
-        "Or use an expression that keeps every wait and adds to them, at the cost of goals that can \
-         no longer run side by side:",
+        "Or use an expression that keeps every wait and adds to them; each wait more is two goals \
+         that no longer run side by side:",
     );
     new_waits::in_words(page, named, order, four);
     page.paragraph(

@@ -2,6 +2,7 @@
 
 use super::places::{Field, Part, fields};
 use super::words::{Page, capital, count, first_few, is_or_are, variable};
+use crate::input::RECORD_INPUT;
 use crate::view::View;
 use lfj::{GOAL_LIMIT, GOAL_TEXT_LIMIT, Kind, Refusal, TICK_LIMIT, VARIABLE_LIMIT, variables};
 use std::ops::Range;
@@ -145,9 +146,8 @@ fn the_fault(refused: &Refused, kind: Kind, part: Part) -> String {
         (Kind::BadGoalSet, Part::Set(goal)) => too_high(refused, &refused.goal(goal), part),
         (Kind::BadGroundSet, Part::GroundAt(goal)) => bad_ground(refused, goal),
         (Kind::BadTicks, Part::Ticks(goal)) => {
-            let ticks = count(refused.value(part) as usize, "tick");
-            let goal = capital(&refused.goal(goal));
-            format!("{goal} would take {ticks}; 1 to {TICK_LIMIT} is right.")
+            let (goal, ticks) = (refused.goal(goal), refused.value(part));
+            format!("The ticks of {goal} are {ticks}; 1 to {TICK_LIMIT} is right.")
         }
         (Kind::BadGoalText, Part::Length(goal)) => {
             let length = count(refused.value(part) as usize, "byte");
@@ -317,11 +317,15 @@ fn bad_pair(refused: &Refused, pair: u32) -> String {
 
 fn left_over(refused: &Refused) -> String {
     let (goals, pairs) = (refused.record[5] as usize, refused.record[7] as usize);
+    let length = refused.record.len();
+    // Of a longer record no more is read.
+    let at_least = if length < RECORD_INPUT { "" } else { "at least " };
     format!(
-        "By the counts at bytes 5 and 7, {} and {}, the record ends before it; {} too many.",
+        "By the counts at bytes 5 and 7, {} and {}, the record ends before it; {at_least}{} too \
+         many.",
         count(goals, "goal"),
         count(pairs, "pair"),
-        bytes_are(refused.record.len() - refused.place)
+        bytes_are(length - refused.place)
     )
 }
 

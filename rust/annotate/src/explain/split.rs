@@ -1,5 +1,6 @@
 //! Where a clause without a form can be split into clauses that have one.
 
+use super::stricter::renumbered;
 use super::words::{Named, Page, count};
 use lfj::{Clause, Expr};
 
@@ -14,20 +15,10 @@ pub fn part(clause: &Clause, from: usize, to: usize) -> Clause {
     }
 }
 
-/// The expression with every goal's number higher by so much.
-fn shifted(expression: Expr, by: u32) -> Expr {
-    let all = |members: Vec<Expr>| members.into_iter().map(|part| shifted(part, by)).collect();
-    match expression {
-        Expr::Goal(goal) => Expr::Goal(goal + by),
-        Expr::Sequence(members) => Expr::Sequence(all(members)),
-        Expr::Parallel(members) => Expr::Parallel(all(members)),
-    }
-}
-
 /// The form of goals `from` to `to`, by the numbers of the whole clause. None if there is none.
 pub fn form_of(clause: &Clause, from: usize, to: usize) -> Option<Expr> {
     let record = part(clause, from, to).record().ok()?;
-    Some(shifted(lfj::form_tree(&record).ok()?, from as u32 - 1))
+    Some(renumbered(lfj::form_tree(&record).ok()?, &|goal| goal + from as u32 - 1))
 }
 
 /// A part of a clause: its first and last goal, and its form.
