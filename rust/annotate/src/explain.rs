@@ -3,6 +3,7 @@
 
 pub mod causes;
 mod expression;
+mod faults;
 pub mod mel;
 pub mod new_facts;
 pub mod new_waits;

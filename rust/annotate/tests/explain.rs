@@ -100,9 +100,7 @@ fn induced(expression: &Expr, rows: &mut [u32]) {
     }
 }
 
-#[test]
-fn a_clause_with_a_form() {
-    let expected = r"half-motif: 3 goals, 3 variables, a record of version 1.
+const HALF_MOTIF: &str = r"half-motif: 3 goals, 3 variables, a record of version 1.
 
 What is known
   In the head: Left and Right.
@@ -131,12 +129,8 @@ The MEL annotation
   Stage 1: 1 half and 2 edge side by side, without a check.
   Stage 2: 3 join alone.
 ";
-    assert_eq!(explain(&sample("half-motif")), expected);
-}
 
-#[test]
-fn a_clause_without_a_form() {
-    let expected = r"no-form: 4 goals, 4 variables, a record of version 1.
+const NO_FORM: &str = r"no-form: 4 goals, 4 variables, a record of version 1.
 
 What is known
   In the head: A, B, C and D.
@@ -198,12 +192,8 @@ The MEL annotation
   Stage 1: 1 trim(A), 2 picot(B), 3 braid(C) and 4 close(D), 3 checks: A and C, B and C, B and D are
            independent.
 ";
-    assert_eq!(explain(&sample("no-form")), expected);
-}
 
-#[test]
-fn a_refused_record() {
-    let expected = r"refused-cut: refused 7 61.
+const REFUSED_CUT: &str = r"refused-cut: refused 7 61.
 
 What is wrong
   Byte 61 would be the 3rd byte of the text of goal 3, bytes 59 to 62; it is past the end, the
@@ -215,7 +205,14 @@ The bytes around it
     48  67 65 00 00 00 00 00 00 00 05 04 6a 6f           ge.........jo
                                                ^^ byte 61
 ";
-    assert_eq!(explain(&sample("refused-cut")), expected);
+
+#[test]
+fn as_printed() {
+    for (name, words) in
+        [("half-motif", HALF_MOTIF), ("no-form", NO_FORM), ("refused-cut", REFUSED_CUT)]
+    {
+        assert_eq!(explain(&sample(name)), words);
+    }
 }
 
 #[test]
