@@ -6,7 +6,7 @@ use annotate::explain::places::{Field, Part, field_at};
 use annotate::explain::{explain, mel, new_facts, new_waits, split};
 use annotate::view::View;
 use annotate::{hex, input};
-use lfj::{Clause, Expr, Kind, Refusal, Verdict};
+use lfj::{Clause, ClauseError, Expr, Kind, Refusal, Verdict};
 use std::collections::BTreeSet;
 use std::fs;
 use std::path::{Path, PathBuf};
@@ -237,6 +237,76 @@ fn direct_waits_closed_are_the_order_and_every_wait_has_a_reason() {
 }
 
 #[test]
+fn causes_are_all_that_the_facts_leave() {
+    for view in views() {
+        let facts = lfj::facts(&view.record).unwrap();
+        let has = |set: u64, variable: u8| set >> variable & 1 == 1;
+        for (one, other) in pairs(facts.goals).filter(|(one, other)| one < other) {
+            let [a, b] = [one, other].map(|goal| facts.sets[goal as usize - 1]);
+            let ground = facts.ground[one as usize - 1];
+            let open = |set: u64| (0..64).filter(move |x| has(set, *x) && !has(ground, *x));
+            let shared: Vec<u8> = open(a & b).collect();
+            let pairs = open(a)
+                .filter(|x| !has(b, *x))
+                .flat_map(|x| open(b).filter(move |y| !has(a, *y)).map(move |y| (x, y)));
+            let unlisted = pairs.filter(|(x, y)| !has(facts.listed[*x as usize], *y));
+            let pairs: Vec<(u8, u8)> = unlisted.collect();
+            let causes = causes(view.clause.as_ref().unwrap(), one, other);
+            let causes = causes.map_or((vec![], vec![]), |causes| (causes.shared, causes.pairs));
+            assert_eq!(causes, (shared, pairs));
+        }
+    }
+}
+
+/// The goals, called g1, g2, .., that a text names.
+fn named_goals(text: &str) -> BTreeSet<u32> {
+    let words = text.split_whitespace();
+    let words = words.map(|word| word.trim_end_matches([':', ',', ';', '.']));
+    words.filter_map(|word| word.strip_prefix('g')?.parse().ok()).collect()
+}
+
+/// What an explanation says of each goal's waits: the goal, and a line with those it waits for.
+fn told_waits(explained: &str) -> Vec<(u32, String)> {
+    let told = explained.split("\nWho waits for whom\n").nth(1).unwrap();
+    let told = told.split("\n\nThe MEL annotation\n").next().unwrap();
+    let (mut goal, mut items) = (0, Vec::new());
+    for line in told.lines() {
+        if let Some(item) = line.strip_prefix("    - ") {
+            items.push((goal, item.to_string()));
+        } else if line.starts_with("      ") {
+            items.last_mut().unwrap().1 += &format!(" {}", line.trim());
+        } else {
+            goal += 1;
+            assert!(line.starts_with(&format!("  {goal} g{goal} waits for")), "{line}");
+        }
+    }
+    items
+}
+
+#[test]
+fn the_waits_that_are_told_are_the_order() {
+    for view in views() {
+        let mut clause = view.clause.unwrap();
+        for (goal, number) in clause.goals.iter_mut().zip(1..) {
+            goal.text = format!("g{number}");
+        }
+        let (mut direct, mut through) = (BTreeSet::new(), BTreeSet::new());
+        let view = View::new("clause", clause.record().unwrap(), Vec::new());
+        for (goal, item) in told_waits(&explain(&view)) {
+            let alone = item.ends_with("through others alone");
+            let set = if alone { &mut through } else { &mut direct };
+            set.extend(named_goals(&item).into_iter().map(|earlier| (earlier, goal)));
+        }
+        let rows = direct_waits(&clause);
+        for (one, other) in pairs(view.order.len() as u32) {
+            let chained = has(&view.order, one, other) && !has(&rows, one, other);
+            assert_eq!(direct.contains(&(one, other)), has(&rows, one, other));
+            assert_eq!(through.contains(&(one, other)), chained);
+        }
+    }
+}
+
+#[test]
 fn direct_waits_are_those_of_the_kit() {
     let mut compared = 0;
     for (question, answer) in cases() {
@@ -281,7 +351,10 @@ fn new_facts_take_the_wait_away() {
         for (from, to) in [(a, c), (b, c), (b, d)] {
             let (statable, _) = new_facts::ways(&clause, &view.order, from, to);
             for facts in statable {
-                let Ok(record) = facts.added_to(&clause).record() else { continue };
+                let record = match facts.added_to(&clause).record() {
+                    Err(ClauseError::Count { .. }) => continue,
+                    record => record.unwrap(),
+                };
                 let row = lfj::after(&record, from).unwrap();
                 assert!(row >> (to - 1) & 1 == 0, "{facts:?} {clause:?}");
                 tried += 1;

@@ -56,15 +56,23 @@ impl Refused<'_> {
         first_few(&names, FEW)
     }
 
+    /// A variable by its number, with its name if it has one.
+    fn numbered(&self, number: u8) -> String {
+        match self.names.get(number as usize) {
+            Some(name) if *name != format!("v{number}") => format!("v{number}, {name}"),
+            _ => format!("v{number}"),
+        }
+    }
+
     /// `is` or `are`, of the variables of a set.
     fn is(&self, set: u64) -> &'static str {
         is_or_are(set.count_ones() as usize)
     }
 }
 
-/// What is wrong and what would be right.
-pub fn the_fault(refused: &Refused, kind: Kind, part: Part) -> String {
-    match (kind, part) {
+/// What is wrong with this part and what would be right.
+pub fn the_fault(refused: &Refused, kind: Kind, part: Part) -> Option<String> {
+    Some(match (kind, part) {
         (Kind::ShortRecord, _) => short_record(refused),
         (Kind::BadMark, _) => bad_mark(refused),
         (Kind::BadVersion, _) => {
@@ -80,12 +88,12 @@ pub fn the_fault(refused: &Refused, kind: Kind, part: Part) -> String {
         }
         (Kind::BadHeaderSet, Part::Head) => too_high(refused, "the head", Part::Head),
         (Kind::BadHeaderSet, _) => ground_outside(refused),
-        (Kind::CutOff, Part::Text(goal)) => cut_text(refused, goal),
-        (Kind::CutOff, Part::Pair(pair)) => cut_pair(refused, pair),
+        (Kind::CutOff, Part::Text(goal)) => cut_text(refused, goal)?,
+        (Kind::CutOff, Part::Pair(pair)) => cut_pair(refused, pair)?,
         (
             Kind::CutOff,
             Part::Set(goal) | Part::GroundAt(goal) | Part::Ticks(goal) | Part::Length(goal),
-        ) => cut_fixed(refused, goal),
+        ) => cut_fixed(refused, goal)?,
         (Kind::BadGoalSet, Part::Set(goal)) => too_high(refused, &refused.goal(goal), part),
         (Kind::BadGroundSet, Part::GroundAt(goal)) => bad_ground(refused, goal),
         (Kind::BadTicks, Part::Ticks(goal)) => {
@@ -96,11 +104,11 @@ pub fn the_fault(refused: &Refused, kind: Kind, part: Part) -> String {
             let length = count(refused.value(part) as usize, "byte");
             format!("The text of goal {goal} would have {length}; 1 to {GOAL_TEXT_LIMIT} is right.")
         }
-        (Kind::BadGoalText, Part::Text(goal)) => bad_text_byte(refused, goal),
-        (Kind::BadPair, Part::Pair(pair)) => bad_pair(refused, pair),
+        (Kind::BadGoalText, Part::Text(goal)) => bad_text_byte(refused, goal)?,
+        (Kind::BadPair, Part::Pair(pair)) => bad_pair(refused, pair)?,
         (Kind::LeftOver, _) => left_over(refused),
-        _ => String::new(),
-    }
+        _ => return None,
+    })
 }
 
 fn short_record(refused: &Refused) -> String {
@@ -131,8 +139,9 @@ fn too_high(refused: &Refused, owner: &str, part: Part) -> String {
     let high = first_few(&high, FEW);
     let range = match known {
         0 => "no variables".to_string(),
-        1 => "1 variable, v0".to_string(),
-        _ => format!("{known} variables, v0 to v{}", known - 1),
+        _ => {
+            format!("{}, up to {}", count(known as usize, "variable"), refused.numbered(known - 1))
+        }
     };
     let owner = capital(owner);
     format!("{owner} has {high}, but the clause has {range} (variable count, byte 6).")
@@ -150,48 +159,45 @@ fn ground_outside(refused: &Refused) -> String {
     )
 }
 
-fn cut_fixed(refused: &Refused, goal: u32) -> String {
-    let fields = [Part::Set(goal), Part::Length(goal)].map(|part| refused.field(part));
-    let [Some(first), Some(last)] = fields else { return String::new() };
-    let parts = match last.end - first.start {
-        9 => "variable set and length byte",
-        _ => "variable set, ground set, ticks and length byte",
+fn cut_fixed(refused: &Refused, goal: u32) -> Option<String> {
+    let (first, last) = (refused.field(Part::Set(goal))?, refused.field(Part::Length(goal))?);
+    let parts = match refused.field(Part::GroundAt(goal)) {
+        None => "variable set and length byte",
+        Some(_) => "variable set, ground set, ticks and length byte",
     };
-    format!(
+    Some(format!(
         "The fixed part of goal {goal} of {} ({parts}) is bytes {} to {}; {} missing.",
         refused.record[5],
         first.start,
         last.end - 1,
         bytes_are(last.end - refused.record.len())
-    )
+    ))
 }
 
-fn cut_text(refused: &Refused, goal: u32) -> String {
-    let fields = [Part::Length(goal), Part::Text(goal)].map(|part| refused.field(part));
-    let [Some(length), Some(text)] = fields else { return String::new() };
+fn cut_text(refused: &Refused, goal: u32) -> Option<String> {
+    let (length, text) = (refused.field(Part::Length(goal))?, refused.field(Part::Text(goal))?);
     let there = refused.bytes(text.start..text.end);
     let shown = match there.is_empty() {
         true => "none of them is there".to_string(),
         false => format!("`{}` is there", there.escape_ascii()),
     };
-    format!(
+    Some(format!(
         "The text of goal {goal} has {} by its length byte, byte {}; {shown}, and {} missing.",
         count(text.end - text.start, "byte"),
         length.start,
         bytes_are(text.end - refused.record.len())
-    )
+    ))
 }
 
-fn cut_pair(refused: &Refused, pair: u32) -> String {
+fn cut_pair(refused: &Refused, pair: u32) -> Option<String> {
     let pairs = refused.record[7] as usize;
-    let Some(field) = refused.field(Part::Pair(pair)) else { return String::new() };
-    let end = field.end + 2 * (pairs - pair as usize);
-    format!(
+    let end = refused.field(Part::Pair(pair))?.end + 2 * (pairs - pair as usize);
+    Some(format!(
         "The record has {} by its pair count, byte 7, two bytes each; it ends at pair {pair}, and \
          {} missing.",
         count(pairs, "pair"),
         bytes_are(end - refused.record.len())
-    )
+    ))
 }
 
 fn bad_ground(refused: &Refused, goal: u32) -> String {
@@ -220,42 +226,40 @@ fn bad_ground(refused: &Refused, goal: u32) -> String {
     )
 }
 
-fn bad_text_byte(refused: &Refused, goal: u32) -> String {
-    let text = refused.field(Part::Text(goal));
-    let text = text.map_or(&[][..], |text| refused.bytes(text.start..text.end));
-    format!(
+fn bad_text_byte(refused: &Refused, goal: u32) -> Option<String> {
+    let text = refused.field(Part::Text(goal))?;
+    Some(format!(
         "The text of goal {goal} is `{}`; each byte of a text has to be 33 to 126, a sign that \
          can be seen and no space.",
-        text.escape_ascii()
-    )
+        refused.bytes(text.start..text.end).escape_ascii()
+    ))
 }
 
-fn bad_pair(refused: &Refused, pair: u32) -> String {
-    let pair_of = |pair: u32| {
-        let two =
-            refused.field(Part::Pair(pair)).map(|field| refused.bytes(field.start..field.end));
-        two.map_or((0, 0), |two| (two[0], two[1]))
+fn bad_pair(refused: &Refused, pair: u32) -> Option<String> {
+    let pair_of = |pair: u32| -> Option<(u8, u8)> {
+        let start = refused.field(Part::Pair(pair))?.start;
+        Some((*refused.record.get(start)?, *refused.record.get(start + 1)?))
     };
-    let (first, second) = pair_of(pair);
+    let (first, second) = pair_of(pair)?;
     let known = refused.record[6];
     let [one, other] = [first, second].map(|number| match number < known {
         true => variable(refused.names, number),
         false => format!("v{number}"),
     });
-    let found = format!("Pair {pair} is {first} {second}, {one} and {other}");
-    if first == second {
-        format!("{found}; a pair has two different variables.")
+    let fault = if first == second {
+        "; a pair has two different variables.".to_string()
     } else if first > second {
-        format!("{found}; the lower number has to come first, {second} {first}.")
+        format!("; the lower number has to come first, {second} {first}.")
     } else if second >= known {
-        format!("{found}, but the variable count, byte 6, is {known}; both have to be below it.")
+        format!(", but the variable count, byte 6, is {known}; both have to be below it.")
     } else {
-        let (before, behind) = pair_of(pair - 1);
+        let (before, behind) = pair_of(pair - 1)?;
         format!(
-            "{found}, and the pair before it is {before} {behind}; pairs have to ascend, by the \
-             first number, then by the second, and none comes twice."
+            ", and the pair before it is {before} {behind}; pairs have to ascend, by the first \
+             number, then by the second, and none comes twice."
         )
-    }
+    };
+    Some(format!("Pair {pair} is {first} {second}, {one} and {other}{fault}"))
 }
 
 fn left_over(refused: &Refused) -> String {

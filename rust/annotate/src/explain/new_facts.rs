@@ -1,4 +1,4 @@
-//! NewFacts that would take a wait away, tried with the proved library.
+//! Facts that would take a wait away, tried with the proved library.
 
 use super::causes::{ascending, causes, direct_waits, has, waited_for};
 use super::words::{Named, Page, first_few, is_or_are};
@@ -103,9 +103,9 @@ impl NewFacts {
     }
 }
 
-/// The direct waits that have to go so that `from` is not before `to`: those that lead from
-/// it towards `to`, or those that lead from it to `to`. The same where the wait is a direct
-/// one with no chain beside it.
+/// The direct waits that have to go so that `from` is not before `to`: all that leave `from` on
+/// a way to `to`, or all that arrive at `to` on a way from `from`. They are the same where the
+/// one direct wait is all there is.
 fn cuts(direct: &[u32], order: &[u32], from: u32, to: u32) -> Vec<Vec<(u32, u32)>> {
     let row = |rows: &[u32], goal: u32| rows[goal as usize - 1];
     let leaving = members(row(direct, from))
@@ -159,27 +159,23 @@ fn tried(named: &Named, facts: &NewFacts) -> (bool, String) {
     }
 }
 
-/// Why no record can state any of these facts.
-fn impossible(named: &Named, facts: &[NewFacts]) -> String {
-    let reasons = facts.first().map(|facts| facts.not_statable(named.clause)).unwrap_or_default();
-    let Some((variable, goal)) = reasons.first() else { return String::new() };
-    format!(
+/// Why no record can state these facts.
+fn impossible(named: &Named, facts: &NewFacts) -> Option<String> {
+    let (variable, goal) = *facts.not_statable(named.clause).first()?;
+    Some(format!(
         "no fact that a record may state takes it away: {} would have to be ground at {}, and it \
          is in neither the head nor a goal further left.",
-        named.variable(*variable),
-        named.goal(*goal)
-    )
+        named.variable(variable),
+        named.goal(goal)
+    ))
 }
 
 /// Which facts would take away each of the waits, and what comes of it.
 pub fn in_words(page: &mut Page, named: &Named, order: &[u32], waits: &[(u32, u32)]) {
     let mut forms = Vec::new();
     for &(from, to) in waits {
-        page.paragraph(
-            4,
-            "",
-            &format!("so that {} does not wait for {}:", named.goal(to), named.goal(from)),
-        );
+        let words = format!("so that {} does not wait for {}:", named.goal(to), named.goal(from));
+        page.paragraph(4, "", &words);
         let (good, bad) = ways(named.clause, order, from, to);
         for facts in &good {
             let (form, words) = tried(named, facts);
@@ -187,7 +183,8 @@ pub fn in_words(page: &mut Page, named: &Named, order: &[u32], waits: &[(u32, u3
             page.paragraph(6, "- ", &format!("if {}: {words}", facts.in_words(named)));
         }
         if good.is_empty() {
-            page.paragraph(6, "- ", &impossible(named, &bad));
+            let words = bad.first().and_then(|facts| impossible(named, facts));
+            words.into_iter().for_each(|words| page.paragraph(6, "- ", &words));
         }
     }
     if !forms.is_empty() && !forms.contains(&true) {

@@ -1,7 +1,7 @@
 //! A refused record in words: which byte of which field, what is wrong and what would be right.
 
 use super::faults::{Refused, the_fault};
-use super::places::{Field, Part, fields};
+use super::places::{Field, Part, field_at, fields};
 use super::words::{Page, capital, count};
 use crate::view::View;
 use lfj::Refusal;
@@ -92,14 +92,11 @@ pub fn in_words(page: &mut Page, view: &View, refusal: &Refusal) {
     let fields = fields(&view.record);
     let refused = Refused { record: &view.record, names: &view.names, place, fields };
     page.paragraph(0, "", &format!("{}: refused {} {place}.", view.name, refusal.number));
-    let at = refused.fields.iter().find(|field| (field.start..field.end).contains(&place));
-    let words = match at {
-        Some(field) => {
-            let fault = the_fault(&refused, refusal.kind(), field.part);
-            format!("{} {fault}", the_byte(&refused, field))
-        }
-        None => format!("{}.", capital(&refusal.words(&view.record))),
-    };
+    let words = field_at(&view.record, place).and_then(|field| {
+        let fault = the_fault(&refused, refusal.kind(), field.part)?;
+        Some(format!("{} {fault}", the_byte(&refused, &field)))
+    });
+    let words = words.unwrap_or_else(|| format!("{}.", capital(&refusal.words(&view.record))));
     page.heading("What is wrong");
     page.paragraph(2, "", &words);
     page.heading("The bytes around it");
