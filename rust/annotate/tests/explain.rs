@@ -100,6 +100,24 @@ fn induced(expression: &Expr, rows: &mut [u32]) {
     }
 }
 
+/// No sequence directly in a sequence, no group directly in a group, and the members of a group
+/// ascend by their smallest goal.
+fn is_in_house_form(expression: &Expr) -> bool {
+    let smallest = |member: &Expr| member.goals().into_iter().min();
+    match expression {
+        Expr::Goal(_) => true,
+        Expr::Sequence(members) => {
+            members.iter().all(|part| is_in_house_form(part) && !matches!(part, Expr::Sequence(_)))
+        }
+        Expr::Parallel(members) => {
+            members.is_sorted_by_key(smallest)
+                && members
+                    .iter()
+                    .all(|part| is_in_house_form(part) && !matches!(part, Expr::Parallel(_)))
+        }
+    }
+}
+
 const HALF_MOTIF: &str = r"half-motif: 3 goals, 3 variables, a record of version 1.
 
 What is known
@@ -389,6 +407,7 @@ fn offered_expressions_keep_every_wait() {
             let mut rows = vec![0; clause.goals.len()];
             induced(form, &mut rows);
             assert_eq!(rows, stricter.rows);
+            assert!(is_in_house_form(form), "{form}");
             assert!(rows.iter().zip(&view.order).all(|(row, less)| row & less == *less));
             let verdict = lfj::check(&view.record, format!("{form:#}").as_bytes()).unwrap();
             let Verdict::Differs(i, j) = verdict else { panic!("the clause has no form") };

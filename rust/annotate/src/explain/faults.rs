@@ -1,7 +1,7 @@
 //! What is wrong with a refused record and what would be right, a sentence for each refusal.
 
 use super::places::{Field, Part};
-use super::words::{capital, count, first_few, is_or_are, variable};
+use super::words::{TIE, capital, count, first_few, is_or_are, variable};
 use crate::input::RECORD_INPUT;
 use lfj::{GOAL_LIMIT, GOAL_TEXT_LIMIT, Kind, TICK_LIMIT, VARIABLE_LIMIT, variables};
 use std::ops::Range;
@@ -59,7 +59,7 @@ impl Refused<'_> {
     /// A variable by its number, with its name if it has one.
     fn numbered(&self, number: u8) -> String {
         match self.names.get(number as usize) {
-            Some(name) if *name != format!("v{number}") => format!("v{number}, {name}"),
+            Some(name) if *name != format!("v{number}") => format!("{name}, v{number},"),
             _ => format!("v{number}"),
         }
     }
@@ -137,14 +137,12 @@ fn too_high(refused: &Refused, owner: &str, part: Part) -> String {
     let high = variables(refused.value(part)).filter(|variable| *variable >= known);
     let high: Vec<String> = high.map(|variable| format!("v{variable}")).collect();
     let high = first_few(&high, FEW);
-    let range = match known {
-        0 => "no variables".to_string(),
-        _ => {
-            format!("{}, up to {}", count(known as usize, "variable"), refused.numbered(known - 1))
-        }
+    let highest = match known {
+        0 => String::new(),
+        _ => format!(", so that {} is the highest", refused.numbered(known - 1)),
     };
     let owner = capital(owner);
-    format!("{owner} has {high}, but the clause has {range} (variable count, byte 6).")
+    format!("{owner} has {high}, but the variable count, byte{TIE}6, is {known}{highest}.")
 }
 
 fn ground_outside(refused: &Refused) -> String {
@@ -251,7 +249,7 @@ fn bad_pair(refused: &Refused, pair: u32) -> Option<String> {
     } else if first > second {
         format!("; the lower number has to come first, {second} {first}.")
     } else if second >= known {
-        format!(", but the variable count, byte 6, is {known}; both have to be below it.")
+        format!(", but the variable count, byte{TIE}6, is {known}; both have to be below it.")
     } else {
         let (before, behind) = pair_of(pair - 1)?;
         format!(

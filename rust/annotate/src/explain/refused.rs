@@ -2,7 +2,7 @@
 
 use super::faults::{Refused, the_fault};
 use super::places::{Field, Part, field_at, fields};
-use super::words::{Page, capital, count};
+use super::words::{Page, TIE, capital, count};
 use crate::view::View;
 use lfj::Refusal;
 
@@ -53,7 +53,7 @@ fn the_byte(refused: &Refused, field: &Field) -> String {
     let name = name(field, place);
     match refused.record.get(place) {
         Some(value) => {
-            format!("Byte {place} is {name}; its value is {value}, hexadecimal {value:02x}.")
+            format!("Byte {place} is {name}; its value is {value}, hexadecimal{TIE}{value:02x}.")
         }
         None => format!(
             "Byte {place} would be {name}; it is past the end, the record has {}.",

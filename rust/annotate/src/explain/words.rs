@@ -6,7 +6,7 @@ use lfj::Clause;
 const WIDTH: usize = 100;
 
 /// A space at which no line is broken, until the page is done.
-const TIE: char = '\u{a0}';
+pub const TIE: char = '\u{a0}';
 
 /// Text that grows by paragraphs.
 #[derive(Default)]
