@@ -2,7 +2,7 @@
 //! against the proved library.
 
 use annotate::explain::causes::{between, causes, direct_waits};
-use annotate::explain::places::{Field, Part, field_at};
+use annotate::explain::places::{Part, field_at};
 use annotate::explain::{explain, mel, new_facts, new_waits, split};
 use annotate::view::View;
 use annotate::{hex, input};
@@ -224,11 +224,95 @@ The bytes around it
                                                ^^ byte 61
 ";
 
+const DOCUMENT_003: &str = r"document-003: 4 goals, 3 variables, a record of version 1.
+
+What is known
+  In the head: X and Y.
+  Ground from the start: none.
+  Known to be independent: no two variables.
+  The goals and their variables:
+    1 p(X,Y): X and Y
+    2 q(X,Z): X and Z
+    3 r(X): X
+    4 s(Y,Z): Y and Z
+
+The form
+  1,2,3,4
+  p(X,Y), q(X,Z), r(X), s(Y,Z)
+  First 1 p(X,Y), then 2 q(X,Z), then 3 r(X), then 4 s(Y,Z).
+
+Who waits for whom
+  1 p(X,Y) waits for no goal.
+  2 q(X,Z) waits for
+    - 1 p(X,Y): both have X, which is not ground at 1 p(X,Y); besides, Y and Z are not known to be
+      independent
+  3 r(X) waits for
+    - 1 p(X,Y): both have X, which is not ground at 1 p(X,Y)
+    - 2 q(X,Z): both have X, which is not ground at 2 q(X,Z)
+  4 s(Y,Z) waits for
+    - 1 p(X,Y): both have Y, which is not ground at 1 p(X,Y); besides, X and Z are not known to be
+      independent
+    - 2 q(X,Z): both have Z, which is not ground at 2 q(X,Z); besides, X and Y are not known to be
+      independent
+    - 3 r(X): X and Y are not known to be independent, nor is 1 pair more
+
+The MEL annotation
+  (ground(X) => p(X,Y) & q(X,Z)), (indep(X,Y), indep(X,Z) => r(X) & s(Y,Z))
+  2 stages, one after another. The checks of a stage are made at run time, before it starts: if all
+  of them hold, its goals run side by side, else in sequence.
+  Stage 1: 1 p(X,Y) and 2 q(X,Z), 1 check: X is ground.
+  Stage 2: 3 r(X) and 4 s(Y,Z), 2 checks: X and Y, X and Z are independent.
+";
+
+const DURATIONS: &str = r"durations: 4 goals, 2 variables, a record of version 2.
+
+What is known
+  In the head: Left and Right.
+  Ground from the start: none.
+  Known to be independent: Left and Right.
+  The goals and their variables:
+    1 spool: none; 40 ticks
+    2 half(Left): Left; 1200 ticks
+    3 half(Right): Right; 900 ticks
+    4 finish(Left,Right): Left and Right; 60000 ticks
+  The goals take 62140 ticks in all.
+
+The form
+  1&((2&3),4)
+  spool & ((half(Left) & half(Right)), finish(Left,Right))
+  side by side:
+    - 1 spool
+    - first side by side:
+        - 2 half(Left)
+        - 3 half(Right)
+      then 4 finish(Left,Right)
+
+Who waits for whom
+  1 spool waits for no goal.
+  2 half(Left) waits for no goal.
+  3 half(Right) waits for no goal.
+  4 finish(Left,Right) waits for
+    - 2 half(Left): both have Left, which is not ground at 2 half(Left)
+    - 3 half(Right): both have Right, which is not ground at 3 half(Right)
+
+The MEL annotation
+  (ground(Left), ground(Right) => spool & half(Left) & half(Right) & finish(Left,Right))
+  1 stage. The checks of a stage are made at run time, before it starts: if all of them hold, its
+  goals run side by side, else in sequence.
+  Stage 1: 1 spool, 2 half(Left), 3 half(Right) and 4 finish(Left,Right), 2 checks: Left and Right
+           are ground.
+";
+
 #[test]
 fn as_printed() {
-    for (name, words) in
-        [("half-motif", HALF_MOTIF), ("no-form", NO_FORM), ("refused-cut", REFUSED_CUT)]
-    {
+    let printed = [
+        ("half-motif", HALF_MOTIF),
+        ("document-003", DOCUMENT_003),
+        ("durations", DURATIONS),
+        ("no-form", NO_FORM),
+        ("refused-cut", REFUSED_CUT),
+    ];
+    for (name, words) in printed {
         assert_eq!(explain(&sample(name)), words);
     }
 }
@@ -531,53 +615,140 @@ fn meant(record: &[u8], refusal: Refusal) -> (Part, String) {
     }
 }
 
+/// An explanation on one line.
+fn explained(record: &[u8]) -> String {
+    let explained = explain(&View::new("record", record.to_vec(), Vec::new()));
+    explained.split_whitespace().collect::<Vec<_>>().join(" ")
+}
+
 #[test]
 fn the_field_of_a_refused_byte_is_named() {
-    for (record, refusal) in refused() {
+    let refused = refused().into_iter();
+    let past_the_end = |kind| matches!(kind, Kind::ShortRecord | Kind::CutOff);
+    for (record, refusal) in refused.filter(|(_, refusal)| !past_the_end(refusal.kind())) {
         let place = refusal.place as usize;
-        let Field { part, start, end } = field_at(&record, place).unwrap();
-        assert!((start..end).contains(&place));
-        if matches!(refusal.kind(), Kind::ShortRecord | Kind::CutOff) {
-            assert_eq!(place, record.len());
-            continue;
-        }
-        let (wanted, words) = meant(&record, refusal);
-        assert_eq!(part, wanted, "{refusal} {record:?}");
-        let explained = explain(&View::new("record", record.clone(), Vec::new()));
-        let value = record[place];
-        let words = [words, format!("its value is {value}, hexadecimal {value:02x}.")];
-        let line = explained.split_whitespace().collect::<Vec<_>>().join(" ");
-        assert!(words.iter().all(|words| line.contains(words)), "{words:?} {explained}");
+        let (part, words) = meant(&record, refusal);
+        assert_eq!(field_at(&record, place).unwrap().part, part, "{refusal} {record:?}");
+        let explained = explained(&record);
+        assert!(explained.contains(&words), "{words} {explained}");
+        let value = format!("its value is {0}, hexadecimal {0:02x}.", record[place]);
+        assert!(explained.contains(&value), "{value} {explained}");
     }
 }
 
 #[test]
-fn a_cut_off_record_says_where() {
-    let mut halves = [0; 3];
-    for (record, refusal) in refused() {
-        if refusal.kind() != Kind::CutOff {
-            continue;
-        }
-        let explained = explain(&View::new("record", record.clone(), Vec::new()));
-        let line = explained.split_whitespace().collect::<Vec<_>>().join(" ");
-        let no_pairs = with(&record, 7, 0);
-        let (half, words) = match lfj::read(&no_pairs) == Err(refusal) {
-            false => (2, format!("it ends at pair {},", first_count(&record, 7, refusal))),
-            true => {
-                let goal = first_count(&no_pairs, 5, refusal);
-                let fixed = if record[4] == 1 { 9 } else { 19 };
-                let in_fixed = record.len() - start_of(&no_pairs, goal) < fixed;
-                match in_fixed {
-                    true => (0, format!("The fixed part of goal {goal} of {} (", record[5])),
-                    false => (1, format!("The text of goal {goal} has ")),
-                }
-            }
+fn a_short_record_says_where() {
+    let refused = refused().into_iter();
+    for (record, _) in refused.filter(|(_, refusal)| refusal.kind() == Kind::ShortRecord) {
+        let length = record.len();
+        let (part, name) = match length {
+            0..=2 => (Part::Mark, "byte of the mark"),
+            3 | 4 => (Part::Version, "byte of the version"),
+            5 => (Part::GoalCount, "the goal count"),
+            6 => (Part::VariableCount, "the variable count"),
+            7 => (Part::PairCount, "the pair count"),
+            8..=15 => (Part::Head, "byte of the head set"),
+            _ => (Part::Ground, "byte of the ground set"),
         };
-        halves[half] += 1;
-        assert!(line.contains(&words), "{words} {explained}");
-        assert!(line.contains(&format!("the record has {} bytes.", record.len())), "{explained}");
+        assert_eq!(field_at(&record, length).unwrap().part, part);
+        let explained = explained(&record);
+        let place = format!("Byte {length} would be the ");
+        assert!(explained.contains(&place) && explained.contains(name), "{explained}");
     }
-    assert!(halves.iter().all(|cases| *cases > 5), "{halves:?}");
+}
+
+/// The field of a goal in which a record ends so many bytes behind the goal's start, and words
+/// that have to name the half of 7. None past the fixed part.
+fn in_fixed(version: u8, offset: usize, goal: u32) -> Option<(Part, String)> {
+    let part = match (version, offset) {
+        (_, 0..8) => Part::Set(goal),
+        (2, 8..16) => Part::GroundAt(goal),
+        (2, 16..18) => Part::Ticks(goal),
+        (1, 8) | (2, 18) => Part::Length(goal),
+        _ => return None,
+    };
+    Some((part, format!("The fixed part of goal {goal} of ")))
+}
+
+#[test]
+fn a_cut_off_record_says_where() {
+    let mut halves = BTreeSet::new();
+    let refused = refused().into_iter();
+    for (record, refusal) in refused.filter(|(_, refusal)| refusal.kind() == Kind::CutOff) {
+        let no_pairs = with(&record, 7, 0);
+        let (part, words) = if lfj::read(&no_pairs) == Err(refusal) {
+            let goal = first_count(&no_pairs, 5, refusal);
+            let offset = record.len() - start_of(&no_pairs, goal);
+            let goal = goal as u32;
+            let in_text = || (Part::Text(goal), format!("The text of goal {goal} has "));
+            in_fixed(record[4], offset, goal).unwrap_or_else(in_text)
+        } else {
+            let pair = first_count(&record, 7, refusal) as u32;
+            (Part::Pair(pair), format!("it ends at pair {pair},"))
+        };
+        assert_eq!(field_at(&record, record.len()).unwrap().part, part);
+        let end = format!("it is past the end, the record has {} bytes.", record.len());
+        let explained = explained(&record);
+        assert!(explained.contains(&words) && explained.contains(&end), "{words} {explained}");
+        halves.insert(words.split_whitespace().take(2).collect::<Vec<_>>().join(" "));
+    }
+    assert!(halves.iter().eq(["The fixed", "The text", "it ends"]), "{halves:?}");
+}
+
+/// The number in so many bytes of a record.
+fn number(record: &[u8], place: usize, length: usize) -> u64 {
+    record[place..place + length].iter().fold(0, |number, byte| number << 8 | *byte as u64)
+}
+
+/// What an explanation of a ground set has to say: what it lacks, or else has too much.
+fn wrong_in_ground_set(record: &[u8], refusal: Refusal) -> String {
+    let place = refusal.place as usize;
+    let no_pairs = with(record, 7, 0);
+    let goal = first_count(&no_pairs, 5, refusal);
+    let before = match goal {
+        1 => number(record, 16, 8),
+        _ => number(record, start_of(&no_pairs, goal - 1) + 8, 8),
+    };
+    let met = (1..goal).map(|goal| number(record, start_of(&no_pairs, goal), 8));
+    let met = met.fold(number(record, 8, 8), |met, set| met | set);
+    let own = number(record, place, 8);
+    let lowest = |set: u64| lfj::variables(set).next().unwrap();
+    match before & !own {
+        0 => format!("has v{}", lowest(own & !met)),
+        lacking => format!("lacks v{}", lowest(lacking)),
+    }
+}
+
+#[test]
+fn what_is_wrong_is_named() {
+    for (record, refusal) in refused() {
+        let place = refusal.place as usize;
+        let lowest = |set: u64| lfj::variables(set).next().unwrap();
+        let too_high = |set: u64| lowest(set & (u64::MAX << record[6]));
+        let words = match refusal.kind() {
+            Kind::ShortRecord => format!("at least {} byte", 24 - place),
+            Kind::BadVersion => format!("The version is {};", number(&record, 3, 2)),
+            Kind::BadGoalCount => format!("would have {} goal", record[5]),
+            Kind::BadVariableCount => format!("would have {} variable", record[6]),
+            Kind::BadHeaderSet if place == 8 => format!("v{}", too_high(number(&record, 8, 8))),
+            Kind::BadHeaderSet => {
+                format!("v{}", lowest(number(&record, 16, 8) & !number(&record, 8, 8)))
+            }
+            Kind::BadGoalSet => format!("has v{}", too_high(number(&record, place, 8))),
+            Kind::BadGroundSet => wrong_in_ground_set(&record, refusal),
+            Kind::BadTicks => format!("are {};", number(&record, place, 2)),
+            Kind::BadPair => match (record[place], record[place + 1]) {
+                (one, other) if one == other => "has two different variables".into(),
+                (one, other) if one > other => format!("has to come first, {other} {one}."),
+                (_, other) if other >= record[6] => "have to be below it".into(),
+                _ => "have to ascend".into(),
+            },
+            Kind::LeftOver => format!("{} byte", record.len() - place),
+            _ => continue,
+        };
+        let explained = explained(&record);
+        assert!(explained.contains(&words), "{words} {explained}");
+    }
 }
 
 #[test]
@@ -599,10 +770,9 @@ fn each_refusal_has_a_sentence_of_its_own() {
     ];
     let mut met = BTreeSet::new();
     for (record, refusal) in refused() {
-        let explained = explain(&View::new("record", record, Vec::new()));
-        let line = explained.split_whitespace().collect::<Vec<_>>().join(" ");
+        let explained = explained(&record);
         for (number, phrases) in &sentences {
-            let found = phrases.iter().filter(|phrase| line.contains(**phrase));
+            let found = phrases.iter().filter(|phrase| explained.contains(**phrase));
             let own = refusal.number == *number;
             assert_eq!(found.clone().count(), own as usize, "{number} {explained}");
             met.extend(found);
