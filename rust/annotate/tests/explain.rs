@@ -318,6 +318,14 @@ fn as_printed() {
 }
 
 #[test]
+fn where_a_variable_gets_ground_is_told_once() {
+    let words = explain(&sample("ground-on-the-way"));
+    let line = "    2 wind(Length,Left): Length and Left; 1 tick; ground from here on: Length\n";
+    assert!(words.contains(line), "{words}");
+    assert_eq!(words.matches("ground from here on").count(), 1, "{words}");
+}
+
+#[test]
 fn direct_waits_closed_are_the_order_and_every_wait_has_a_reason() {
     for view in views() {
         let clause = view.clause.as_ref().unwrap();
@@ -406,6 +414,23 @@ fn the_waits_that_are_told_are_the_order() {
             assert_eq!(through.contains(&(one, other)), chained);
         }
     }
+}
+
+#[test]
+fn of_many_waits_those_that_no_chain_gives_are_told_in_full() {
+    // Eight goals, one after another: each waits for all before it.
+    let clause = (1..=8).fold(Clause::new(1), |clause, goal| clause.goal(&format!("g{goal}"), [0]));
+    let view = View::new("clause", clause.record().unwrap(), Vec::new());
+    let last: Vec<String> = told_waits(&explain(&view))
+        .into_iter()
+        .filter(|(goal, _)| *goal == 8)
+        .map(|(_, item)| item)
+        .collect();
+    let reason =
+        |goal: u32| format!("{goal} g{goal}: both have v0, which is not ground at {goal} g{goal}");
+    let mut told: Vec<String> = [1, 2, 3, 4, 7].map(reason).to_vec();
+    told.push("for like reasons 5 g5 (v0) and 6 g6 (v0)".to_string());
+    assert_eq!(last, told);
 }
 
 #[test]

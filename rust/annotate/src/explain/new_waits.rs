@@ -32,13 +32,20 @@ fn by_one_wait(order: &[u32], four: [u32; 4]) -> Vec<(Stricter, Expr)> {
     found
 }
 
-/// Waits added one after another until there is a form: each time the one that leaves the
-/// fewest fours without one, then the one that adds the fewest waits.
-fn until_a_form(order: &[u32], mut four: [u32; 4]) -> Option<(Stricter, Expr)> {
+/// Which of two steps towards a form is better: the lower one.
+type Rank = fn(&Stricter, &[u32]) -> (usize, usize);
+
+/// First the fewest fours without a form, then the fewest waits; or the other way round.
+const RANKS: [Rank; 2] = [
+    |stricter, order| (stricter.fours(), stricter.beyond(order).len()),
+    |stricter, order| (stricter.beyond(order).len(), stricter.fours()),
+];
+
+/// Waits added one after another until there is a form, each time the best by its rank.
+fn until_a_form(order: &[u32], mut four: [u32; 4], rank: Rank) -> Option<(Stricter, Expr)> {
     let mut stricter = Stricter::of(order);
     loop {
-        let next = by_one(&stricter, four);
-        stricter = next.min_by_key(|next| (next.fours(), next.beyond(order).len()))?;
+        stricter = by_one(&stricter, four).min_by_key(|next| rank(next, order))?;
         match stricter.form()? {
             Ok(form) => return Some((stricter, form)),
             Err(goals) => four = goals,
@@ -46,11 +53,15 @@ fn until_a_form(order: &[u32], mut four: [u32; 4]) -> Option<(Stricter, Expr)> {
     }
 }
 
-/// The expressions to offer: by one wait if that suffices, else by several. None if a record
-/// cannot list the pairs that it takes to ask.
+/// The expressions to offer: by one wait if that suffices, else one by several, of which fewer
+/// may do. None if a record cannot list the pairs that it takes to ask.
 pub fn offers(order: &[u32], four: [u32; 4]) -> Vec<(Stricter, Expr)> {
     let found = by_one_wait(order, four);
-    if found.is_empty() { until_a_form(order, four).into_iter().collect() } else { found }
+    if !found.is_empty() {
+        return found;
+    }
+    let found = RANKS.into_iter().filter_map(|rank| until_a_form(order, four, rank));
+    found.min_by_key(|(stricter, _)| stricter.beyond(order).len()).into_iter().collect()
 }
 
 fn in_short(named: &Named, order: &[u32], stricter: &Stricter, form: &Expr) -> String {
@@ -62,7 +73,9 @@ fn in_short(named: &Named, order: &[u32], stricter: &Stricter, form: &Expr) -> S
     if more.len() > FEW {
         told.push(format!("and {} others", more.len() - FEW));
     }
-    format!("{form:#}: {} more, {}", count(more.len(), "wait"), told.join("; "))
+    // One is the least; of several nothing says that no others would be fewer.
+    let fewer = if more.len() > 1 { " (fewer may do)" } else { "" };
+    format!("{form:#}: {} more{fewer}, {}", count(more.len(), "wait"), told.join("; "))
 }
 
 /// Which expressions keep every wait and what each adds.

@@ -53,7 +53,7 @@ impl Stricter {
 
     /// How many fours of goals show that there is no form: a before c, b before c and d, and no
     /// other order among them.
-    pub fn fours(&self) -> u32 {
+    pub fn fours(&self) -> usize {
         let fronts: Vec<u32> = self.goals().map(|goal| self.front(goal)).collect();
         let front = |goal: u32| fronts[goal as usize - 1];
         let beside = |goal: u32| !(self.behind(goal) | front(goal) | 1 << (goal - 1));
@@ -61,7 +61,7 @@ impl Stricter {
         for b in self.goals() {
             for c in members(self.behind(b)) {
                 for a in members(front(c) & beside(b)) {
-                    fours += (self.behind(b) & beside(c) & beside(a)).count_ones();
+                    fours += (self.behind(b) & beside(c) & beside(a)).count_ones() as usize;
                 }
             }
         }
