@@ -63,11 +63,12 @@ fn accepted(page: &mut Page, view: &View, named: &Named) {
             page.paragraph(2, "", &expression::with_texts(named, form));
             expression::in_words(page, named, form);
         }
-        Err(refusal) => no_form::in_words(page, named, refusal.goals.map(u32::from)),
-    }
-    if let Err(refusal) = &view.form {
-        page.heading("What a designer can do");
-        no_form::advice(page, named, &view.order, refusal.goals.map(u32::from));
+        Err(refusal) => {
+            let four = refusal.goals.map(u32::from);
+            no_form::in_words(page, named, four);
+            page.heading("What a designer can do");
+            no_form::advice(page, named, &view.order, four);
+        }
     }
     page.heading("Who waits for whom");
     waits::in_words(page, named, &view.order);

@@ -22,8 +22,8 @@ pub fn in_words(page: &mut Page, named: &Named, four: [u32; 4]) {
     page.paragraph(
         2,
         "",
-        "An expression that keeps these three waits always has at least one more among the four. MEL runs \
-         the clause anyway; its annotation stands below.",
+        "An expression that keeps these three waits always has at least one more among the four. \
+         MEL runs the clause anyway; its annotation stands below.",
     );
 }
 
