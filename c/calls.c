@@ -284,8 +284,31 @@ static void test_text_words(const struct lent *record)
     hold_text_words(record, "1,,2", refusal_word(LFJ_BAD_GRAMMAR, 2), "grammar");
 }
 
+/* The sample with the longest MEL annotation that we know of: just enough room, a byte less,
+ * and the room that is always enough. */
+static void test_long_mel(const struct lent *record)
+{
+    const char *name = "long-mel";
+    size_t length = 192127;
+    struct lent enough = lend(length);
+    struct lent less = lend(length - 1);
+    struct lent most = lend(LFJ_MEL_MAX);
+    uint64_t refusal = refusal_word(LFJ_SHORT_BUFFER, length);
+    hold(lfj_mel(record->bytes, record->length, enough.bytes, length) == length
+             && lent_kept(&enough, length), name, "just enough room");
+    hold(lfj_mel(record->bytes, record->length, less.bytes, length - 1) == refusal
+             && lent_kept(&less, 0), name, "a byte less of room");
+    hold(lfj_mel(record->bytes, record->length, most.bytes, LFJ_MEL_MAX) == length
+             && lent_kept(&most, length), name, "room of LFJ_MEL_MAX");
+    hold(memcmp(enough.bytes, most.bytes, length) == 0, name, "the same text in any room");
+    give_back(&enough);
+    give_back(&less);
+    give_back(&most);
+}
+
 int main(int argc, char **argv)
 {
+    struct lent long_mel;
     size_t i;
     if (argc != 2) {
         fputs("usage: calls FOLDER     the folder of the samples\n", stderr);
@@ -304,5 +327,8 @@ int main(int argc, char **argv)
         hold(lent_kept(&record, 0), samples[i].name, "the record changed");
         give_back(&record);
     }
+    long_mel = read_sample(argv[1], "long-mel");
+    test_long_mel(&long_mel);
+    give_back(&long_mel);
     return wrong;
 }

@@ -39,7 +39,9 @@ for std in c++11 c++14 c++17; do
 done
 compiled header
 "$out/header" || fail "a helper of lfj.h is wrong"
-echo "lfj.h compiles as C and C++ without a warning, and its helpers take answers apart"
+$CC -std=c99 -O2 $warnings -Iinclude c/nulls.c -o "$out/nulls" || fail "c/nulls.c does not compile"
+"$out/nulls" || fail "lfj.h lends the library a null pointer"
+echo "lfj.h compiles as C and C++ without a warning, its helpers take answers apart, and no null pointer passes it"
 
 compiled calls
 "$out/calls" samples || fail "a call of lfj.h is wrong"
