@@ -42,7 +42,7 @@ prover() {
     log=$top/target/rt.log
     echo "rt $*: proves what is not proved yet (everything takes some minutes); its words go to target/rt.log" >&2
     if ! (cd "$top" && rt "$@") >"$log" 2>&1; then
-        grep -v -e '^library ' -e 'proved' "$log" | tail -n 40 >&2
+        grep -v -e '^library ' -e '^logic=proved ' -e '^rt: [a-z_]* proved ' "$log" | tail -n 40 >&2
         echo "rt $* failed; all that it said stands in target/rt.log." >&2
         exit 1
     fi
