@@ -55,16 +55,16 @@ fresh() {
         [ -z "$(find "$top/crates" "$top/crates.txt" -newer "$1.kit" | head -n 1)" ]
 }
 
-# built FILE NAME WORD..: makes target/FILE by `rt WORD..`, if it is not fresh. NAME is the
-# environment variable that can name another.
+# built FILE OTHERWISE WORD..: makes target/FILE by `rt WORD..`, if it is not fresh. OTHERWISE
+# says which environment variable can name what.
 built() {
     file=$top/target/$1
     name=$1
-    variable=$2
+    otherwise=$2
     shift 2
     if ! command -v rt >/dev/null; then
         echo "The Rattle kit's rt is not on the path: it proves and builds target/$name." >&2
-        echo "Or let the environment variable $variable name one that is built." >&2
+        echo "Or let the environment variable $otherwise." >&2
         exit 2
     fi
     if fresh "$file"; then

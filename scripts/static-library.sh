@@ -10,7 +10,7 @@ if [ -n "${LFJ_LIB_DIR:-}" ]; then
         exit 2
     fi
 else
-    built staticlib/liblfj.a LFJ_LIB_DIR staticlib lfj
+    built staticlib/liblfj.a "LFJ_LIB_DIR name a folder that has liblfj.a" staticlib lfj
     LFJ_LIB_DIR=$top/target/staticlib
 fi
 export LFJ_LIB_DIR

@@ -1,10 +1,10 @@
 #!/bin/sh
-# usage: scripts/test.sh [WORD..]
-# Runs all tests of the Rust crates, the C face and the scripts, one line a part with its
-# time; with words only the parts whose names hold one of them. What a part said stands in
-# target/test; of a part that fails the last lines are shown. Takes a few minutes.
+# usage: scripts/test.sh [PART..]
+# Runs all tests of the Rust crates, the C face and the scripts, or only the parts that are
+# named, and prints one line a part with its time. What a part said stands in target/test; of
+# a part that fails the last lines are shown. Takes a few minutes.
 #   --help        prints this
-#   --list        prints the names of the parts
+#   --list        prints the parts, each with its command
 #   LFJ_LIB_DIR   a folder that has liblfj.a, which is then taken and not built
 #   SHEET         the proved program `sheet`, which is then taken and not built
 # Without these two the Rattle kit's rt has to be on the path: it proves and builds both, once.
@@ -28,15 +28,13 @@ END
     [ ! -f "$top/scripts/test_kit.sh" ] || echo 'kit-itself   sh scripts/test_kit.sh'
 }
 
-# chosen NAME WORD..: is it a part to run?
+# chosen PART NAME..: is it one of those named? All are, if none is.
 chosen() {
-    part=$1
+    wanted=$1
     shift
     [ $# -gt 0 ] || return 0
-    for word; do
-        case $part in
-        *"$word"*) return 0 ;;
-        esac
+    for name; do
+        [ "$name" != "$wanted" ] || return 0
     done
     return 1
 }
@@ -63,6 +61,7 @@ for word; do
     --list) parts && exit 0 ;;
     -*) wrong_usage "no option is called $word" ;;
     esac
+    parts | grep -q "^$word " || wrong_usage "no part is called $word; --list prints them"
 done
 . "$top/scripts/static-library.sh"
 . "$top/scripts/proved-sheet.sh"
@@ -70,11 +69,10 @@ mkdir -p "$top/target/test"
 parts >"$top/target/test/parts"
 count=0
 failed=0
-while read -r name command; do
-    chosen "$name" "$@" || continue
+while read -r part command; do
+    chosen "$part" "$@" || continue
     count=$((count + 1))
-    run_part "$name" "$command"
+    run_part "$part" "$command"
 done <"$top/target/test/parts"
-[ "$count" -gt 0 ] || wrong_usage "no part holds any of: $*"
 echo "$count parts, $failed failed"
 [ "$failed" -eq 0 ]
