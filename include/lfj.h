@@ -170,8 +170,8 @@ uint64_t lfj_ground_sets(const uint8_t *record, size_t n, uint64_t sets[LFJ_GOAL
 uint64_t lfj_ticks(const uint8_t *record, size_t n, uint32_t ticks[LFJ_GOAL_MAX]);
 
 /*
- * Place x gets the variables that a listed pair has beside variable x, the lower one
- * and the higher one alike; places at or above the variable count are 0.
+ * Place x gets the variables that are listed as independent of variable x; so a pair
+ * shows at both of its variables. Places at or above the variable count are 0.
  * Accepted: the variable count.
  */
 uint64_t lfj_listed(const uint8_t *record, size_t n, uint64_t rows[LFJ_VARIABLE_MAX]);
