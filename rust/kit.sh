@@ -1,15 +1,21 @@
 #!/bin/sh
+# usage: rust/kit.sh
 # Runs the conformance kit against the proved library, and says how many cases agree. Sheets
-# come from the proved program target/bin/sheet if `rt check` has built it (SHEET names
-# another), else from the library's answers.
+# come from the proved program target/bin/sheet, which is built if it is older than the
+# crates; without the Rattle kit they are put together from the library's answers.
+#   LFJ_LIB_DIR   a folder that has liblfj.a, which is then taken and not built
+#   SHEET         the proved program, which is then taken and not built
+#   FILES         the kit's files to run; all if not set
+# Status 0 if no answer differs, 1 if one does, 2 with a wrong argument or without the library.
 set -eu
-here=$(dirname "$0")
-sh "$here/build.sh"
-sheet=${SHEET:-$here/../target/bin/sheet}
-if [ -x "$sheet" ]; then
-    set -- --sheet "$sheet"
+top=$(CDPATH='' cd -- "$(dirname -- "$0")/.." && pwd)
+. "$top/scripts/script.sh"
+no_arguments "$@"
+sh "$top/rust/build.sh"
+if [ -n "${SHEET:-}" ] || command -v rt >/dev/null; then
+    . "$top/scripts/proved-sheet.sh"
+    set -- --sheet "$SHEET"
 else
-    echo "target/bin/sheet is not built: the sheets are put together from the library's answers"
-    set --
+    echo "Neither SHEET is set nor rt on the path: the sheets are put together from the library's answers"
 fi
-exec sh "$here/../kit/run.sh" "$here/target/release/answers" "$@"
+exec sh "$top/kit/run.sh" "$top/rust/target/release/answers" "$@"

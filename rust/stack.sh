@@ -1,9 +1,14 @@
 #!/bin/sh
+# usage: rust/stack.sh
 # Each operation at its worst input on a stack of 256 KB, and the least stack it runs on.
+#   LFJ_LIB_DIR   a folder that has liblfj.a, which is then taken and not built
+# Status 0 if every operation runs on that stack, 1 if not, 2 with a wrong argument or without the library.
 set -eu
-here=$(dirname "$0")
-sh "$here/build.sh"
-stack="$here/target/release/stack"
+top=$(CDPATH='' cd -- "$(dirname -- "$0")/.." && pwd)
+. "$top/scripts/script.sh"
+no_arguments "$@"
+sh "$top/rust/build.sh"
+stack=$top/rust/target/release/stack
 
 # The limit has to bite: 300 KB must not fit.
 if sh -c 'ulimit -s 256; "$0" --use 300; exit $?' "$stack" >/dev/null 2>&1; then
@@ -11,7 +16,7 @@ if sh -c 'ulimit -s 256; "$0" --use 300; exit $?' "$stack" >/dev/null 2>&1; then
     exit 1
 fi
 
-(ulimit -s 256 && "$stack")
+(ulimit -s 256 && "$stack") || exit 1
 echo "every operation runs on a stack of 256 KB"
 
 echo

@@ -1,31 +1,16 @@
 # Sets LFJ_LIB_DIR to the folder of the proved static library liblfj.a. Where the variable
-# names a folder already, that one is taken; else the library is built. To be sourced, with
-# the repository's root as the current folder.
-
-# prover WORD..: runs `rt WORD..`, whose words go to target/rt.log and are shown only if it fails
-prover() {
-    if ! command -v rt >/dev/null; then
-        echo "The Rattle kit's rt is not on the path: it proves and builds the static library." >&2
-        echo "Or let LFJ_LIB_DIR name a folder that has liblfj.a." >&2
-        exit 1
-    fi
-    mkdir -p target
-    echo "rt $*: proves what is not proved yet (everything takes some minutes); its words go to target/rt.log"
-    if ! rt "$@" >target/rt.log 2>&1; then
-        grep -v -e '^library ' -e 'proved' target/rt.log | tail -n 40 >&2
-        echo "rt $* failed; all that it said stands in target/rt.log." >&2
-        exit 1
-    fi
-}
-
+# names a folder already, that one is taken. Else target/staticlib/liblfj.a is reused while it
+# is newer than the crates and made by the same kit, and built if not. To be sourced with `top`
+# set to the repository's root, else with the root as the current folder.
+. "${top:=$PWD}/scripts/script.sh"
 if [ -n "${LFJ_LIB_DIR:-}" ]; then
+    LFJ_LIB_DIR=$(absolute "$LFJ_LIB_DIR")
     if [ ! -f "$LFJ_LIB_DIR/liblfj.a" ]; then
         echo "LFJ_LIB_DIR names $LFJ_LIB_DIR, which has no liblfj.a." >&2
-        exit 1
+        exit 2
     fi
-    LFJ_LIB_DIR=$(cd "$LFJ_LIB_DIR" && pwd)
 else
-    prover staticlib lfj
-    LFJ_LIB_DIR=$PWD/target/staticlib
+    built staticlib/liblfj.a "LFJ_LIB_DIR name a folder that has liblfj.a" staticlib lfj
+    LFJ_LIB_DIR=$top/target/staticlib
 fi
 export LFJ_LIB_DIR

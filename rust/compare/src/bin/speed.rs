@@ -243,6 +243,38 @@ fn lines() -> Vec<Line> {
     lines
 }
 
+impl Line {
+    /// What the words of the command are held against.
+    fn title(&self) -> String {
+        format!("{} {} {}", self.operation.name, self.goals, self.clause)
+    }
+}
+
+/// What the lines have of one kind, each once.
+fn every(lines: &[Line], part: impl Fn(&Line) -> String) -> String {
+    let mut all: Vec<String> = Vec::new();
+    for found in lines.iter().map(part) {
+        if !all.contains(&found) {
+            all.push(found);
+        }
+    }
+    all.join("; ")
+}
+
+/// The lines that hold every word. Ends the program if there is none.
+fn chosen(words: &[String]) -> Vec<Line> {
+    let (chosen, others): (Vec<Line>, Vec<Line>) =
+        lines().into_iter().partition(|line| words.iter().all(|word| line.title().contains(word)));
+    if chosen.is_empty() {
+        eprintln!("speed: no line holds each of: {}", words.join("; "));
+        eprintln!("A line has an operation: {}", every(&others, |l| l.operation.name.to_string()));
+        eprintln!("then its goals: {}", every(&others, |l| l.goals.to_string()));
+        eprintln!("then its clause: {}", every(&others, |l| l.clause.clone()));
+        std::process::exit(2);
+    }
+    chosen
+}
+
 /// The ratios of each operation over random clauses, as a table. A ratio above 1.5 is measured
 /// again and longer, since a short measurement can be disturbed.
 fn spread(seed: u64, clauses: usize) {
@@ -294,6 +326,7 @@ fn main() {
         };
         return spread(number(1, 1), number(2, 300) as usize);
     }
+    let chosen = chosen(&words);
     println!(
         "Nanoseconds a call: the least of {} batches a side, the sides by turns in one",
         LONG.batches
@@ -304,17 +337,13 @@ fn main() {
     println!("| operation | goals | clause | proved | hand-written | ratio |");
     println!("|---|---:|---|---:|---:|---:|");
     let mut measured = Vec::new();
-    for mut line in lines() {
-        let title = format!("{} {} {}", line.operation.name, line.goals, line.clause);
-        if !words.iter().all(|word| title.contains(word)) {
-            continue;
-        }
+    for mut line in chosen {
         let proved = (line.operation.proved)(&mut line.input);
         let hand = (line.operation.hand)(&mut line.input);
         // With 13 the goals are left out here.
         let known = if proved >> 56 == 13 { u64::MAX << 56 } else { u64::MAX };
         if proved & known != hand & known {
-            println!("{title}: the answers differ, {proved:#x} and {hand:#x}");
+            println!("{}: the answers differ, {proved:#x} and {hand:#x}", line.title());
             std::process::exit(1);
         }
         let (proved, hand) = measure(line.operation, &mut line.input, &LONG);
