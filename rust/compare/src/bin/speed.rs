@@ -27,6 +27,7 @@ struct Input {
     text: Vec<u8>,
     goal: u32,
     out: Vec<u8>,
+    rows: [u32; compare::GOAL_LIMIT],
 }
 
 /// An operation from both sides. Each call gives one number, made of its answer.
@@ -43,8 +44,8 @@ fn word<T: Into<u64>>(answer: Result<T, compare::Refusal>) -> u64 {
     }
 }
 
-// SAFETY of all calls below: the pointers are those of vectors, which are not null, and the
-// buffer is a vector of its own.
+// SAFETY of all calls below: the pointers are those of vectors and of an array, which are not
+// null, and what is written to is a vector or an array of its own.
 const READ: Operation = Operation {
     name: "read",
     proved: |i| unsafe { c::lfj_read(i.record.as_ptr(), i.record.len()) },
@@ -56,7 +57,20 @@ const ORDER: Operation = Operation {
     proved: |i| unsafe { c::lfj_after(i.record.as_ptr(), i.record.len(), i.goal) },
     hand: |i| word(compare::order(&i.record).map(|order| order.rows[i.goal as usize - 1])),
 };
-/// The same call of the library for its one row alone: the hand-written side leaves out the
+/// The order as a whole in one call: every row into the same array.
+const ROWS: Operation = Operation {
+    name: "rows",
+    proved: |i| unsafe {
+        c::lfj_order(i.record.as_ptr(), i.record.len(), i.rows.as_mut_ptr().cast())
+    },
+    hand: |i| {
+        word(compare::order(&i.record).map(|order| {
+            i.rows = order.rows;
+            order.goals as u64
+        }))
+    },
+};
+/// The call of the library for its one row alone: the hand-written side leaves out the
 /// goals left of it.
 const AFTER: Operation = Operation {
     name: "after",
@@ -156,7 +170,8 @@ fn input(parts: &Parts, text: Option<&[u8]>, room: usize) -> Input {
             (1..=goals).map(|goal| goal.to_string()).collect::<Vec<_>>().join(",").into_bytes()
         }
     };
-    Input { record, text, goal: goals as u32 / 2 + 1, out: vec![0; room] }
+    let rows = [0; compare::GOAL_LIMIT];
+    Input { record, text, goal: goals as u32 / 2 + 1, out: vec![0; room], rows }
 }
 
 /// A clause whose form nests: 1 waits for nobody, and so on inwards, as the longest form does.
@@ -240,6 +255,7 @@ fn lines() -> Vec<Line> {
     let one = Parts::with_waits(1, &[]).expect("no pairs");
     more(&CHECK, "32 open parentheses", input(&one, Some(&deep), 0));
     lines.extend(typical(&AFTER));
+    lines.extend(typical(&ROWS));
     lines
 }
 
