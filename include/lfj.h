@@ -60,7 +60,7 @@ extern "C" {
 #define LFJ_FORM_MAX 146
 /* A bound on the MEL annotation, in bytes: a buffer of this size is never too short,
  * by theorem. The longest that we know of has 192,127 bytes. */
-#define LFJ_MEL_MAX 1997056
+#define LFJ_MEL_MAX 197162
 /* The longest text that the check reads. */
 #define LFJ_TEXT_MAX 512
 

@@ -74,5 +74,5 @@ done
 [ $skip = 0 ] || wrong "$command" "-o needs a file"
 [ $files = 1 ] || wrong "$command" "a file is missing; - is standard input"
 
-sh "$here/annotate/build.sh" </dev/null >&2 || exit 2
+sh "$here/build.sh" annotate </dev/null >&2 || exit 2
 exec "$here/target/release/annotate" "$@"

@@ -15,9 +15,8 @@ case ${1-} in
     exit 2
     ;;
 esac
-sh "$(dirname "$0")/../rust/annotate/build.sh" >&2
+sh "$(dirname "$0")/../rust/build.sh" >&2
 cd "$(dirname "$0")"
-(cd ../rust && cargo build --release --offline --quiet --package compare --bin reference-sheet)
 annotate=../rust/target/release/annotate
 reference=../rust/target/release/reference-sheet
 

@@ -70,7 +70,7 @@ pub const TICK_LIMIT: u16 = 60_000;
 pub const FORM_LIMIT: usize = 146;
 
 /// No MEL annotation is longer, in bytes.
-pub const MEL_LIMIT: usize = 1_997_056;
+pub const MEL_LIMIT: usize = 197_162;
 
 /// What [`check`] says of an expression.
 #[derive(Clone, Copy, PartialEq, Eq, Hash, Debug)]
