@@ -20,6 +20,8 @@
 //! ```
 #![forbid(unsafe_code)]
 
+#[cfg(feature = "proved")]
+pub mod arrays;
 pub mod build;
 pub mod cases;
 pub mod describe;

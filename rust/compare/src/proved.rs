@@ -2,7 +2,7 @@
 //! answer words that the hand-written one would give.
 
 use crate::cases::Annotator;
-use crate::{GOAL_LIMIT, Order, Refusal, Verdict};
+use crate::{Order, Refusal, Verdict};
 
 /// The annotator of the static library.
 pub struct Proved;
@@ -49,12 +49,8 @@ impl Annotator for Proved {
         }
     }
     fn order(&self, record: &[u8]) -> Result<Order, Refusal> {
-        let goals = self.read(record)? as usize;
-        let mut rows = [0; GOAL_LIMIT];
-        for (row, goal) in rows[..goals].iter_mut().zip(1..) {
-            *row = self.after(record, goal)?;
-        }
-        Ok(Order { goals, rows })
+        let lfj::Order { goals, rows } = lfj::order(record).map_err(refusal)?;
+        Ok(Order { goals: goals as usize, rows })
     }
     fn after(&self, record: &[u8], goal: u32) -> Result<u32, Refusal> {
         lfj::after(record, goal).map_err(refusal)

@@ -5,7 +5,7 @@ use crate::numbers::first_variables;
 
 /// At most this many goals.
 pub const GOAL_LIMIT: usize = 32;
-const VARIABLE_LIMIT: usize = 64;
+pub const VARIABLE_LIMIT: usize = 64;
 const HEADER: usize = 24;
 /// The most bytes of a goal's text (02, 2); the least is 1.
 pub const GOAL_TEXT_LIMIT: usize = 24;

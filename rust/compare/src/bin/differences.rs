@@ -9,6 +9,7 @@
 //! Ends with status 0 if there is no difference and every refusal, verdict, form and no
 //! form was met.
 
+use compare::arrays::Arrays;
 use compare::cases::{Annotator, LANDED, Reference, answer, hex, refused, unhex};
 use compare::generate::{self, Random};
 use compare::proved::{Proved, check_word, text_word, word};
@@ -47,6 +48,23 @@ const MEL: Writer = Writer {
     raw: c::lfj_mel,
     hand: compare::mel,
 };
+
+/// The arrays filled by the library: the answer word of each function.
+fn by_library(arrays: &mut Arrays, record: &[u8]) -> [u64; 6] {
+    let (start, n) = (record.as_ptr(), record.len());
+    // SAFETY: a slice's pointer is not null and its bytes may be read; the arrays are lent by
+    // `&mut`.
+    unsafe {
+        [
+            c::lfj_order(start, n, &mut arrays.rows),
+            c::lfj_head(start, n, &mut arrays.head),
+            c::lfj_goal_sets(start, n, &mut arrays.sets),
+            c::lfj_ground_sets(start, n, &mut arrays.grounds),
+            c::lfj_ticks(start, n, &mut arrays.ticks),
+            c::lfj_listed(start, n, &mut arrays.listed),
+        ]
+    }
+}
 
 /// How often each thing was met, by the hand-written annotator's answers.
 #[derive(Default)]
@@ -190,6 +208,7 @@ impl Run {
             let given = unsafe { c::lfj_goal_text(start, n, goal) };
             self.hold_word(given, text_word(answer), || question("text"));
         }
+        self.arrays(record, random.word());
         let form = self.form(random, record);
         self.length(record);
         self.mel(random, record);
@@ -205,6 +224,19 @@ impl Run {
                 Ok(Verdict::Differs(..)) => self.met.differs += 1,
                 Err(_) => (),
             }
+        }
+    }
+
+    /// What is lent to be filled whole, `value` everywhere before: the order and the facts.
+    fn arrays(&mut self, record: &[u8], value: u64) {
+        let (mut proved, mut hand) = (Arrays::of(value), Arrays::of(value));
+        let question = || format!("order {LANDED} {}", hex(record));
+        let words = by_library(&mut proved, record).into_iter().zip(hand.by_hand(record));
+        for (given, wanted) in words {
+            self.hold_word(given, wanted, question);
+        }
+        if proved != hand {
+            self.report(question(), format!("{proved:x?}"), format!("{hand:x?}"));
         }
     }
 

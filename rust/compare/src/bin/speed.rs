@@ -51,18 +51,10 @@ const READ: Operation = Operation {
     proved: |i| unsafe { c::lfj_read(i.record.as_ptr(), i.record.len()) },
     hand: |i| word(compare::read(&i.record)),
 };
-/// The order as a whole, as the paper has it: both sides make it, and give one row of it.
+/// The order as a whole, as the paper has it: every row into the same array.
 const ORDER: Operation = Operation {
     name: "order",
-    proved: |i| unsafe { c::lfj_after(i.record.as_ptr(), i.record.len(), i.goal) },
-    hand: |i| word(compare::order(&i.record).map(|order| order.rows[i.goal as usize - 1])),
-};
-/// The order as a whole in one call: every row into the same array.
-const ROWS: Operation = Operation {
-    name: "rows",
-    proved: |i| unsafe {
-        c::lfj_order(i.record.as_ptr(), i.record.len(), i.rows.as_mut_ptr().cast())
-    },
+    proved: |i| unsafe { c::lfj_order(i.record.as_ptr(), i.record.len(), &mut i.rows) },
     hand: |i| {
         word(compare::order(&i.record).map(|order| {
             i.rows = order.rows;
@@ -255,7 +247,6 @@ fn lines() -> Vec<Line> {
     let one = Parts::with_waits(1, &[]).expect("no pairs");
     more(&CHECK, "32 open parentheses", input(&one, Some(&deep), 0));
     lines.extend(typical(&AFTER));
-    lines.extend(typical(&ROWS));
     lines
 }
 
