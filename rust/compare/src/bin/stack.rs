@@ -63,6 +63,15 @@ const CALLS: &[Call] = &[
         let record = longest_wide_record();
         record.len() == 1910 && lfj::read(&record) == Ok(32)
     }),
+    ("order, without a form", || {
+        lfj::order(&without_form()).is_ok_and(|order| order.rows[0] == u32::MAX - 1)
+    }),
+    ("order, version 2, 1,910 bytes", || {
+        lfj::order(&longest_wide_record()).is_ok_and(|order| order.rows[0] == u32::MAX - 1)
+    }),
+    ("facts, version 2, 1,910 bytes", || {
+        lfj::facts(&longest_wide_record()).is_ok_and(|facts| facts.goals == 32)
+    }),
     ("after, 32 goals", || lfj::after(&longest_form(), 1) == Ok(u32::MAX - 1)),
     ("after, without a form", || lfj::after(&without_form(), 1) == Ok(u32::MAX - 1)),
     ("after, version 2, 1,910 bytes", || lfj::after(&longest_wide_record(), 1) == Ok(u32::MAX - 1)),
