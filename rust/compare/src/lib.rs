@@ -33,6 +33,7 @@ mod order;
 #[cfg(feature = "proved")]
 pub mod proved;
 mod record;
+pub mod serve;
 mod sheet;
 
 pub use expression::{TEXT_LIMIT, Verdict};
