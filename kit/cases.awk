@@ -56,7 +56,7 @@ function record(digits, words, goals, goal, at, fixed, long, pairs) {
         words = words value(substr(digits, at, 2)) "-" value(substr(digits, at + 2, 2)) " "
         at += 4
     }
-    return length(words) > 1000 ? substr(words, 1, 1000) ".." : words
+    return length(words) > 500 ? substr(words, 1, 500) ".." : words
 }
 
 # The hexadecimal field of an answer, if it has one.

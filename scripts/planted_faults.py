@@ -18,6 +18,7 @@ Prints a table by kind. Status 0 if every fault was found, 1 if one passed, 2 fo
 import glob
 import os
 import re
+import resource
 import shutil
 import subprocess
 import sys
@@ -30,11 +31,13 @@ from kit_cases import cases, fail, read_text
 
 # the annotator's own files, in rust/compare/src
 FILES = ["lib.rs", "record.rs", "order.rs", "form.rs", "expression.rs", "mel.rs", "numbers.rs", "sheet.rs"]
+# functions that no question of the kit reaches: one row of the order
+NOT_ASKED = ("pub fn after(bytes", "pub fn after_goal(")
 # the crate's other parts, which answering does not need
 LEFT_OUT = ("pub mod build;", "pub mod describe;", "pub mod generate;", "pub mod kit;")
 RUSTC = ["rustc", "--edition", "2024", "-A", "warnings", "-C", "opt-level=0", "-C", "overflow-checks=off", "-C", "panic=abort"]
-# seconds for all questions of the kit; a right program takes less than one
-TIME = 20
+# seconds of the processor for all questions of the kit; a right program takes less than one
+TIME = 4
 
 
 class Fault(NamedTuple):
@@ -47,14 +50,18 @@ class Fault(NamedTuple):
     text: str
     # why it is none, if it is none
     reason: str = ""
+    # of planted_faults.txt
+    chosen: bool = False
 
 
 def on_lines(name, text, change):
     """The faults that `change` makes of each line of code: it gives pairs of a kind and a new line."""
     lines = text.split("\n")
+    asked = True
     for at, line in enumerate(lines):
+        asked = not line.startswith(NOT_ASKED) and (asked or line == "}")
         code = line.split("//")[0].rstrip()
-        if not code.strip() or code.strip().startswith(("#", "use ", "pub use ", "mod ", "pub mod ")):
+        if not asked or not code.strip() or code.strip().startswith(("#", "use ", "pub use ", "mod ", "pub mod ")):
             continue
         for kind, new in change(code):
             if new != code:
@@ -75,14 +82,12 @@ REPLACED = [
     ("arithmetic", r" \* ", [" + "]),
     ("arithmetic", r" / ", [" * "]),
     ("arithmetic", r" % ", [" / "]),
-    ("arithmetic", r" \+= ", [" -= ", " = "]),
-    ("arithmetic", r" -= ", [" += ", " = "]),
-    ("set operator", r" & ", [" | ", " ^ "]),
-    ("set operator", r" \| ", [" & ", " ^ "]),
+    ("arithmetic", r" \+= ", [" -= "]),
+    ("arithmetic", r" -= ", [" += "]),
+    ("set operator", r" & ", [" | "]),
+    ("set operator", r" \| ", [" & "]),
     ("set operator", r" \^ ", [" & ", " | "]),
-    ("set operator", r" \|= ", [" &= ", " = "]),
-    ("set operator", r" &= ", [" |= ", " = "]),
-    ("set operator", r" \^= ", [" &= ", " |= "]),
+    ("set operator", r" [|&^]= ", [" = "]),
     ("set operator", r"(?<=[ (&|=])!(?=[a-z(])", [""]),
     ("shift", r" << ", [" >> ", " << 1 + "]),
     ("shift", r" >> ", [" << ", " >> 1 + "]),
@@ -90,8 +95,8 @@ REPLACED = [
     ("logic", r" \|\| ", [" && "]),
     ("logic", r"\btrue\b", ["false"]),
     ("logic", r"\bfalse\b", ["true"]),
-    ("condition", r"\bif (?!let )(.*) \{", [r"if !(\1) {", "if true {", "if false {"]),
-    ("loop", r" in (\w+)\.\.", [r" in 1 + \1..", r" in \1.max(1) - 1.."]),
+    ("condition", r"\bif (?!let )(.*) \{", ["if true {", "if false {"]),
+    ("loop", r" in (\w+)\.\.", [r" in 1 + \1.."]),
     ("loop", r" in (\w+(?: \+ 1)?)\.\.([\w.]+)", [r" in \1..\2 - 1", r" in \1..\2 + 1", r" in (\1..\2).rev()"]),
     ("loop", r"\.rev\(\)", [""]),
     ("first or last", r"trailing_zeros", ["leading_zeros"]),
@@ -99,7 +104,7 @@ REPLACED = [
     ("first or last", r"\bmin\b", ["max"]),
     ("first or last", r"count_ones", ["count_zeros"]),
     ("sign", r"b'(.)'", [r"b'?'"]),
-    ("statement left out", r"^( *)(?!let |return |pub |const |type |struct |\})[^;{}]+;$", [r"\1"]),
+    ("statement left out", r"^( *)(?! |let |return |pub |const |fn |struct |\}|\)|\]|//)[^;{}]+;$", [r"\1"]),
     ("statement left out", r"\?;$", [".ok();"]),
 ]
 
@@ -149,7 +154,7 @@ def planted(kind, name, which, old, new, reason):
     if not whole:
         new = [lines[at].replace(old[0], " ".join(new), 1)]
     text = "\n".join(lines[:at] + new + lines[at + len(old) :])
-    return Fault(kind, name, at + 1, " / ".join(line.strip() for line in lines[at : at + len(old)]), " / ".join(new).strip(), text, reason)
+    return Fault(kind, name, at + 1, " / ".join(line.strip() for line in lines[at : at + len(old)]), " / ".join(new).strip(), text, reason, True)
 
 
 def all_faults():
@@ -177,35 +182,31 @@ class Copy:
         return read_text(os.path.join(root, "rust/compare/src", name))
 
     def write(self, name, text):
+        """Puts a file into the copy. The library's root becomes that of the one program, which compiles faster."""
         if name == "lib.rs":
-            text = "\n".join(line for line in text.split("\n") if not line.startswith(LEFT_OUT))
+            library = "\n".join(line for line in text.split("\n") if not line.startswith(LEFT_OUT))
+            program = self.right("bin/answers-by-hand.rs").replace("//!", "//").replace("compare::", "crate::")
+            name, text = "main.rs", library + program
         with open(os.path.join(self.folder, "src", name), "w", encoding="utf-8") as f:
             f.write(text)
 
     def built(self):
         """Whether it compiles."""
-        steps = [
-            ["--crate-type", "rlib", "--crate-name", "compare", "src/lib.rs", "-o", "libcompare.rlib"],
-            ["--extern", "compare=libcompare.rlib", "src/bin/answers-by-hand.rs", "-o", "answers"],
-        ]
-        return all(subprocess.run(RUSTC + step, cwd=self.folder, capture_output=True).returncode == 0 for step in steps)
+        words = [*RUSTC, "-C", "incremental=steps", "src/main.rs", "-o", "answers"]
+        return subprocess.run(words, cwd=self.folder, capture_output=True).returncode == 0
 
     def difference(self, questions, expected):
         """The name of the first case whose answer differs, and how; None if there is none."""
+        limit = lambda: resource.setrlimit(resource.RLIMIT_CPU, (TIME, TIME))
         program = os.path.join(self.folder, "answers")
-        with tempfile.TemporaryFile() as out:
-            try:
-                subprocess.run([program], input=questions, stdout=out, stderr=subprocess.DEVNULL, timeout=TIME)
-                ended = "no answer"
-            except subprocess.TimeoutExpired:
-                ended = "no answer in time"
-            out.seek(0)
-            given = out.read().decode("ascii", "replace").split("\n")
-        for at, (name, answer) in enumerate(expected):
-            if at >= len(given) - 1:
-                return name, ended
-            if given[at] != answer:
-                return name, given[at]
+        with open(questions) as lines, subprocess.Popen(
+            [program], stdin=lines, stdout=subprocess.PIPE, stderr=subprocess.DEVNULL, preexec_fn=limit
+        ) as process:
+            for name, answer in expected:
+                given = process.stdout.readline().decode("ascii", "replace")
+                if given != answer + "\n":
+                    process.kill()
+                    return name, given.strip() or "no answer"
         return None
 
 
@@ -223,12 +224,20 @@ def shown(fault):
     return f"{fault.file}:{fault.line} ({fault.kind})\n  - {fault.old}\n  + {fault.new}"
 
 
-def run(faults, show_all):
+def kit_cases():
+    """Every case of the kit: each 40th first, then the next of each 40, so that most faults are found early."""
     asked = cases(sorted(glob.glob(os.path.join(root, "kit/*/*.txt"))))
-    questions = "".join(case.question + "\n" for case in asked).encode("ascii")
+    return [case for start in range(40) for case in asked[start::40]]
+
+
+def run(faults, show_all):
+    asked = kit_cases()
     expected = [(case.name, case.answer) for case in asked]
     results, wrong = [], 0
     with tempfile.TemporaryDirectory() as folder:
+        questions = os.path.join(folder, "questions")
+        with open(questions, "w", encoding="ascii") as f:
+            f.write("".join(case.question + "\n" for case in asked))
         copy = Copy(folder)
         if not copy.built() or copy.difference(questions, expected):
             fail("the annotator without a fault does not compile or does not agree with the kit: run kit-cases")
@@ -242,8 +251,9 @@ def run(faults, show_all):
                 if show_all or bad:
                     says = f"  found by {how[0]}: {how[1][:80]}" if how else "  passes the kit"
                     print(shown(fault) + "\n" + says + (f"; listed as none: {fault.reason}" if fault.reason else ""), flush=True)
-            elif fault.reason:
-                fail(f"does not compile, and is listed as none: {shown(fault)}")
+            elif fault.chosen:
+                wrong += 1
+                print(shown(fault) + "\n  does not compile", flush=True)
             copy.write(fault.file, copy.right(fault.file))
     table(results)
     return wrong

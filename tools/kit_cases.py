@@ -73,10 +73,13 @@ def bytes_of(field):
 
 
 def write_all(files):
-    """Writes the contents given for each path, once all are known."""
+    """Writes the contents given for each path, once all are known and every folder is there."""
+    for path in files:
+        if not os.path.isdir(os.path.dirname(path)):
+            fail(f"{os.path.dirname(path)}: no such folder; run from the repository's root")
     for path, content in files.items():
         try:
             with open(path, "wb") as f:
                 f.write(content)
         except OSError as error:
-            fail(f"{path}: {error.strerror}; run from the repository's root")
+            fail(f"{path}: {error.strerror}")
