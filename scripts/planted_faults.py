@@ -126,7 +126,7 @@ def numbers(code):
 
 
 def by_hand():
-    """The faults of planted_faults.txt: under `## KIND` the entries, each a line `FILE [WHICH]`, lines `- OLD`, `+ NEW`, `= REASON`."""
+    """The faults of planted_faults.txt, which says how its entries are read."""
     path = os.path.join(root, "scripts/planted_faults.txt")
     kind = ""
     for entry in re.split(r"\n\n+", read_text(path)):
@@ -139,7 +139,9 @@ def by_hand():
         parts = {sign: [line[2:] for line in lines[1:] if line.startswith(sign + " ")] for sign in "-+="}
         if name not in FILES or not parts["-"] or sum(map(len, parts.values())) != len(lines) - 1:
             fail(f"{path}: not an entry: {entry}")
-        yield planted(kind, name, int(which or 1), parts["-"], parts["+"], " ".join(parts["="]))
+        several = [parts["+"]] if len(parts["-"]) > 1 else [[new] for new in parts["+"]]
+        for new in several:
+            yield planted(kind, name, int(which or 1), parts["-"], new, " ".join(parts["="]))
 
 
 def planted(kind, name, which, old, new, reason):
@@ -152,7 +154,7 @@ def planted(kind, name, which, old, new, reason):
         fail(f"planted_faults.txt: {name} has no line {which} with: {old[0]}")
     at = places[which - 1]
     if not whole:
-        new = [lines[at].replace(old[0], " ".join(new), 1)]
+        new = [lines[at].replace(old[0], new[0], 1)]
     text = "\n".join(lines[:at] + new + lines[at + len(old) :])
     return Fault(kind, name, at + 1, " / ".join(line.strip() for line in lines[at : at + len(old)]), " / ".join(new).strip(), text, reason, True)
 

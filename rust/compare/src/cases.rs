@@ -83,10 +83,10 @@ pub fn unhex(text: &str) -> Result<Vec<u8>, String> {
     digits.chunks(2).map(|two| Ok((value(two[0])? << 4 | value(two[1])?) as u8)).collect()
 }
 
-/// A refusal as an answer.
+/// A refusal as an answer. Its goals are shown where they are not 0, which is right for 13 alone.
 pub fn refused(refusal: Refusal) -> String {
     let mut line = format!("refused {} {}", refusal.number, refusal.place);
-    if refusal.number == 13 {
+    if refusal.goals != [0; 4] {
         for goal in refusal.goals {
             line += &format!(" {goal}");
         }

@@ -115,6 +115,17 @@ pub(super) fn goals() -> Lines {
             }
         }
     }
+    lines.note("9-each-byte", "a bad byte at each place of a text, behind the lowest good one");
+    for length in [8, 9, 16, 17, 24] {
+        for at in 0..length {
+            let mut text = vec![b'!'; length];
+            text[at] = [31, 32, 127, 128][at % 4];
+            let mut parts = waiting(1, &[]);
+            parts.goals[0].1 = text;
+            lines.read(&parts.record());
+        }
+    }
+    lines.note("9-two-bytes", "the first of two bad bytes, and of two goals");
     let mut parts = waiting(2, &[]);
     parts.goals[0].1 = b"a b c".to_vec();
     parts.goals[1].1 = b" ".to_vec();
