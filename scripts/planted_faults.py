@@ -31,13 +31,15 @@ from kit_cases import cases, fail, read_text
 
 # the annotator's own files, in rust/compare/src
 FILES = ["lib.rs", "record.rs", "order.rs", "form.rs", "expression.rs", "mel.rs", "numbers.rs", "sheet.rs"]
+# the heading of planted_faults.txt under which faults of the operators stand that are none
+OPERATORS = "operators"
 # functions that no question of the kit reaches: one row of the order
 NOT_ASKED = ("pub fn after(bytes", "pub fn after_goal(")
 # the crate's other parts, which answering does not need
 LEFT_OUT = ("pub mod build;", "pub mod describe;", "pub mod generate;", "pub mod kit;")
 RUSTC = ["rustc", "--edition", "2024", "-A", "warnings", "-C", "opt-level=0", "-C", "overflow-checks=off", "-C", "panic=abort"]
 # seconds of the processor for all questions of the kit; a right program takes less than one
-TIME = 4
+TIME = 2
 
 
 class Fault(NamedTuple):
@@ -136,7 +138,7 @@ def by_hand():
         if not lines:
             continue
         name, _, which = lines[0].partition(" ")
-        parts = {sign: [line[2:] for line in lines[1:] if line.startswith(sign + " ")] for sign in "-+="}
+        parts = {sign: [line[2:] for line in lines[1:] if (line + " ").startswith(sign + " ")] for sign in "-+="}
         if name not in FILES or not parts["-"] or sum(map(len, parts.values())) != len(lines) - 1:
             fail(f"{path}: not an entry: {entry}")
         several = [parts["+"]] if len(parts["-"]) > 1 else [[new] for new in parts["+"]]
@@ -160,15 +162,18 @@ def planted(kind, name, which, old, new, reason):
 
 
 def all_faults():
-    """Each once: one chosen by hand first, which keeps its kind and its reason."""
-    found = {}
+    """Each once: those chosen by hand, then those of the operators, with the reasons that the list has for them."""
+    found, reasons = {}, {}
     for fault in by_hand():
-        found.setdefault((fault.file, fault.text), fault)
+        (reasons if fault.kind == OPERATORS else found).setdefault((fault.file, fault.text), fault)
     for name in FILES:
         text = read_text(os.path.join(root, "rust/compare/src", name))
         for change in (replacements, numbers):
             for fault in on_lines(name, text, change):
-                found.setdefault((name, fault.text), fault)
+                listed = reasons.pop((name, fault.text), None)
+                found.setdefault((name, fault.text), fault._replace(reason=listed.reason) if listed else fault)
+    if reasons:
+        fail(f"no operator makes this fault of planted_faults.txt: {shown(next(iter(reasons.values())))}")
     return list(found.values())
 
 

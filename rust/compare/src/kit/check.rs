@@ -33,6 +33,12 @@ pub(super) fn grammar() -> Lines {
         }
         lines.check(&four, &text[..at]);
     }
+    lines.note("each-byte", "every byte alone, and behind a number");
+    let single = waiting(1, &[]);
+    for byte in 0..=255 {
+        lines.check(&single, &[byte]);
+        lines.check(&single, &[b'1', byte]);
+    }
     lines.note("open-parentheses", "open parentheses, spare ones too: 32 at a time");
     let one = waiting(1, &[]);
     for deep in [1, 2, 16, 31, 32, 33, 34, 64, 255, 256] {
@@ -211,6 +217,12 @@ fn high_goals(lines: &mut Lines) {
         lines.check(&waiting, &one_sequence(32, goal));
         lines.check(&none, &one_sequence(goal, 32));
         lines.check(&none, &one_sequence(32, goal));
+    }
+    lines.note("each-variable", "goals 1 and 3 share a variable; a pair of it is listed");
+    for x in 0..64 {
+        let mut parts = Parts::over(64, &[1 << x, 0, 1 << x]);
+        parts.pairs = vec![if x < 63 { (x, x + 1) } else { (0, 63) }];
+        assert_eq!(lines.check(&parts, b"1&2&3"), "differs 1 3");
     }
     let all: Vec<String> = (1..=32).map(|goal| goal.to_string()).collect();
     let chain = Parts::over(1, &[1; 32]);

@@ -52,6 +52,15 @@ pub(super) fn mel_stages() -> Lines {
         parts.head = 0;
         lines.mel(&parts, 400);
     }
+    lines.note("many-stages", "up to 32 stages of one goal, and 16 of two goals");
+    for goals in [8, 15, 16, 17, 31, 32] {
+        let sets: Vec<u64> = (0..goals).map(|goal| 3 << goal).collect();
+        let mut parts = Parts::over(40, &sets);
+        parts.head = 0;
+        lines.mel(&parts, 400);
+    }
+    let joining: Vec<u8> = (1..16).collect();
+    lines.mel(&Parts::in_stages(17, &[2; 16], &joining, false), 16_384);
     lines.note("each-variable", "a variable outside the head that goals 1 and 2 share");
     for x in 0..64u64 {
         let other = (x + 1) % 64;
@@ -172,6 +181,30 @@ pub(super) fn buffers() -> Lines {
         let mut out = [0; 100];
         let length = crate::mel(&parts.record(), &mut out).expect("room enough") as usize;
         for room in (0..=length + 3).chain([1000]) {
+            lines.mel(&parts, room);
+        }
+    }
+    lines.note(
+        "mel-close",
+        "MEL with many goals and checks of each kind: rooms close to the length",
+    );
+    let high = |from: u32, to: u32| (from..to).fold(0u64, |set, x| set | 1 << x);
+    let mut stages = Parts::over(64, &[high(10, 20), high(10, 21), high(19, 26), high(13, 21)]);
+    stages.head &= !(1 << 20);
+    for parts in [
+        Parts::over(4, &[0b0111, 0b1011]),
+        Parts::over(64, &[u64::MAX; 2]),
+        Parts::over(64, &[high(10, 13), high(13, 16)]),
+        Parts::over(64, &[high(10, 30), high(10, 33), high(30, 36)]),
+        Parts::over(64, &[1 << 40; 32]),
+        Parts::over(1, &[0; 32]),
+        stages,
+    ] {
+        let length = crate::mel(&parts.record(), &mut []).expect_err("no room").place as usize;
+        for room in [0, length / 8, length / 4, length / 2, 3 * length / 4] {
+            lines.mel(&parts, room);
+        }
+        for room in length.saturating_sub(16)..=length + 1 {
             lines.mel(&parts, room);
         }
     }
