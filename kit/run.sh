@@ -26,12 +26,11 @@ fail() {
     exit 2
 }
 
-# cases MODE FILE [WORD=VALUE..]: what cases.awk makes of a file of cases
+# cases MODE FILE [WORD..]: what cases.awk makes of a file of cases
 cases() {
     mode=$1
     file=$2
     shift 2
-    [ -r "$file" ] || fail "$file: no such file of cases"
     awk -v mode="$mode" -v wanted="$wanted" "$@" -f "$here/cases.awk" "$file"
 }
 
@@ -39,9 +38,13 @@ cases() {
 every() {
     for file in ${FILES:-"$here"/cases/*.txt "$here"/vectors/*.txt}; do
         cases "$1" "$file"
-    done | awk '{ print } END { exit NR == 0 }' || fail "no case is called$wanted; --list has the names"
+    done | awk '{ print } END { exit NR == 0 }' || fail "no case is called ${wanted:-anything}; --list has the names"
 }
 
+for file in ${FILES:-"$here"/cases/*.txt "$here"/vectors/*.txt}; do
+    [ -f "$file" ] && [ -r "$file" ] || fail "$file: no such file of cases"
+done
+names=
 wanted=
 while [ $# -gt 0 ]; do
     case $1 in
@@ -50,12 +53,12 @@ while [ $# -gt 0 ]; do
     --list) every list && exit ;;
     --show)
         [ $# -eq 2 ] || fail "--show takes one NAME"
-        wanted=" $2"
+        wanted=$2
         every show && exit
         ;;
     --case)
         [ $# -ge 2 ] || fail "--case takes a NAME"
-        wanted="$wanted $2"
+        names="$names $2"
         shift 2
         ;;
     -*) fail "no option is called $1; --help says which there are" ;;
@@ -67,10 +70,15 @@ if [ $# -eq 0 ]; then
     exit 2
 fi
 if ! command -v "$1" >/dev/null || { [ -f "$1" ] && [ ! -x "$1" ]; }; then
-    fail "$1 is not a program that can be run"
+    fail "$1 is not a program that can be run; one of this folder is called ./NAME"
 fi
 work=$(mktemp -d)
 trap 'rm -rf "$work"' EXIT
+trap 'exit 1' HUP INT TERM
+for wanted in $names; do
+    every list >/dev/null
+done
+wanted=$names
 every list >"$work/list"
 echo "kit $version, $(awk 'END { print NR }' "$work/list") cases"
 

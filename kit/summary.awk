@@ -13,7 +13,7 @@ END {
     printf "%6d agree %6d differ %6d skipped  in all\n", agree, differ, skipped
     if (skipped > 0) print "skipped, so neither right nor wrong:"
     for (operation in skips)
-        printf "%6d %s: %s\n", skips[operation], operation, operation in about ? about[operation] : "the program does not offer this operation"
+        printf "%6d %s: %s\n", skips[operation], operation, (operation in about ? about[operation] : "the program does not offer this operation")
     if (agree == 0) print "nothing was compared"
     exit differ > 0 || agree == 0
 }

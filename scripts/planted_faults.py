@@ -182,11 +182,12 @@ class Copy:
 
     def __init__(self, folder):
         self.folder = folder
-        shutil.copytree(os.path.join(root, "rust/compare/src"), os.path.join(folder, "src"))
+        for part in ("right", "src"):
+            shutil.copytree(os.path.join(root, "rust/compare/src"), os.path.join(folder, part))
         self.write("lib.rs", self.right("lib.rs"))
 
     def right(self, name):
-        return read_text(os.path.join(root, "rust/compare/src", name))
+        return read_text(os.path.join(self.folder, "right", name))
 
     def write(self, name, text):
         """Puts a file into the copy. The library's root becomes that of the one program, which compiles faster."""

@@ -43,7 +43,7 @@ BEGIN {
         answer[substr(line, 1, at - 1)] = substr(line, at + 3)
     }
 }
-{ print $0 in answer ? answer[$0] : "error" }
+{ print ($0 in answer) ? answer[$0] : "error" }
 END
 
 echo 'right' | annotator right
@@ -76,6 +76,7 @@ tried 1 'given     (no answer)' --case sheet "$work/silent"
 tried 2 'not a program that can be run' "$work/plain"
 tried 2 'not a program that can be run' "$work/nothing"
 tried 2 'no case is called form/none' --case form/none "$work/right"
+tried 2 'no case is called form/none' --case form --case form/none "$work/right"
 tried 2 'no case is called form/none' --show form/none
 tried 2 'no option is called --all' --all
 tried 2 'usage: kit/run.sh'

@@ -39,6 +39,12 @@ pub(super) fn grammar() -> Lines {
         lines.check(&single, &[byte]);
         lines.check(&single, &[b'1', byte]);
     }
+    parentheses(&mut lines);
+    lines
+}
+
+/// Open parentheses, and the length of a text.
+fn parentheses(lines: &mut Lines) {
     lines.note("open-parentheses", "open parentheses, spare ones too: 32 at a time");
     let one = waiting(1, &[]);
     for deep in [1, 2, 16, 31, 32, 33, 34, 64, 255, 256] {
@@ -63,7 +69,6 @@ pub(super) fn grammar() -> Lines {
         text.resize(length, b')');
         lines.check(&ten, &text);
     }
-    lines
 }
 
 pub(super) fn numbers() -> Lines {
@@ -154,6 +159,13 @@ pub(super) fn verdicts() -> Lines {
     for text in ["(1&2,3)&4", "1&2,3&4", "(1,2&3)&4"] {
         lines.check(&waiting(4, &[(1, 3), (2, 3)]), text.as_bytes());
     }
+    seeded(&mut lines);
+    high_goals(&mut lines);
+    lines
+}
+
+/// Seeded expressions against seeded clauses.
+fn seeded(lines: &mut Lines) {
     lines.note("seeded", "seeded expressions, in house form or not, against seeded clauses");
     let mut random = Random::new(19);
     for _ in 0..200 {
@@ -189,8 +201,6 @@ pub(super) fn verdicts() -> Lines {
             super::all_pairs(goals).into_iter().filter(|_| random.chance(1, 3)).collect();
         lines.check(&waiting(goals, &waits), &text);
     }
-    high_goals(&mut lines);
-    lines
 }
 
 /// Of 32 goals side by side two in a sequence, `first` before `second`.

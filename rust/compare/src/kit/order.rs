@@ -44,6 +44,12 @@ pub(super) fn two_goals() -> Lines {
         lines.waits(&parts);
         lines.order(&parts);
     }
+    each_variable(&mut lines);
+    lines
+}
+
+/// Each of 64 variables.
+fn each_variable(lines: &mut Lines) {
     lines.note("each-variable", "a variable of goals 1 and 3, and a listed pair with the next one");
     for x in 0..64 {
         lines.order(&Parts::over(64, &[1 << x, 0, 1 << x]));
@@ -52,7 +58,6 @@ pub(super) fn two_goals() -> Lines {
         parts.pairs = vec![(lower, higher)];
         lines.order(&parts);
     }
-    lines
 }
 
 pub(super) fn closure() -> Lines {
@@ -195,6 +200,10 @@ fn high_goals(lines: &mut Lines) {
     ] {
         lines.form(&among(&[1, 2, 31, 32], waits), 146);
     }
+    high_seeded(lines);
+}
+
+fn high_seeded(lines: &mut Lines) {
     lines.note("high-seeded", "seeded waits among 31, 32 and four other goals");
     let mut random = Random::new(31);
     for _ in 0..80 {

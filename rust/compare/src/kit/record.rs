@@ -92,6 +92,12 @@ pub(super) fn goals() -> Lines {
             }
         }
     }
+    goal_texts(&mut lines, &record);
+    lines
+}
+
+/// Refusal 9.
+fn goal_texts(lines: &mut Lines, record: &[u8]) {
     lines.note("9-length", "9: the text's length, 1 to 24");
     for length in 1..=41 {
         let mut parts = waiting(2, &[]);
@@ -100,7 +106,7 @@ pub(super) fn goals() -> Lines {
     }
     for goal_end in [32, 45, 58] {
         for length in [0, 25, 26, 40, 41, 127, 128, 255] {
-            lines.read(&with_byte(&record, goal_end, length));
+            lines.read(&with_byte(record, goal_end, length));
         }
     }
     lines.note("9-byte", "9: the first byte of the text that is not 33 to 126");
@@ -130,7 +136,6 @@ pub(super) fn goals() -> Lines {
     parts.goals[0].1 = b"a b c".to_vec();
     parts.goals[1].1 = b" ".to_vec();
     lines.read(&parts.record());
-    lines
 }
 
 pub(super) fn pairs() -> Lines {

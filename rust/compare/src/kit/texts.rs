@@ -43,6 +43,12 @@ pub(super) fn mel_stages() -> Lines {
         parts.head = 0;
         lines.mel(&parts, 400);
     }
+    every_stage(&mut lines);
+    lines
+}
+
+/// A stage that ends at each goal and by each variable, and many stages.
+fn every_stage(lines: &mut Lines) {
     lines.note("each-goal", "a variable outside the head that two neighbours of 32 goals share");
     for goal in 0..31 {
         let mut sets = [0u64; 32];
@@ -68,7 +74,6 @@ pub(super) fn mel_stages() -> Lines {
         parts.head = 1 << other;
         lines.mel(&parts, 400);
     }
-    lines
 }
 
 pub(super) fn mel_checks() -> Lines {
@@ -110,6 +115,12 @@ pub(super) fn mel_checks() -> Lines {
         lines.mel(&Parts::over(64, &[1 << x, 1 << y]), 400);
         lines.mel(&Parts::over(64, &[1 << x | 1 << y; 2]), 400);
     }
+    every_check(&mut lines);
+    lines
+}
+
+/// The checks of each of 64 variables.
+fn every_check(lines: &mut Lines) {
     lines.note("each-variable", "a ground check, and a check with the next variable or none");
     for x in 0..64u8 {
         lines.mel(&Parts::over(64, &[1 << x; 2]), 400);
@@ -119,7 +130,6 @@ pub(super) fn mel_checks() -> Lines {
         parts.pairs = vec![(lower, higher)];
         lines.mel(&parts, 400);
     }
-    lines
 }
 
 /// Two clauses whose annotations have 32,768 and 32,769 bytes.
@@ -184,6 +194,12 @@ pub(super) fn buffers() -> Lines {
             lines.mel(&parts, room);
         }
     }
+    close_rooms(&mut lines);
+    lines
+}
+
+/// Rooms at which a bound on the length, taken for the length, goes wrong.
+fn close_rooms(lines: &mut Lines) {
     lines.note(
         "mel-close",
         "MEL with many goals and checks of each kind: rooms close to the length",
@@ -208,7 +224,6 @@ pub(super) fn buffers() -> Lines {
             lines.mel(&parts, room);
         }
     }
-    lines
 }
 
 pub(super) fn goal_texts() -> Lines {

@@ -274,19 +274,27 @@ pub(super) fn facts() -> Lines {
     let mut later = Parts::over(3, &[0b010, 0b011, 0b101]).knowing(&[0b000, 0b000, 0b010]);
     later.head = 0b101;
     lines.expect_mel(&later, "1,(ground(v0),indep(v1,v2)=>2&3)");
+    other_facts(&mut lines);
+    facts_in_full(&mut lines);
+    seeded(&mut lines);
+    lines
+}
+
+/// Facts outside the head, pairs and ticks.
+fn other_facts(lines: &mut Lines) {
     lines.note("outside-head", "a variable outside the head that is ground behind its first goal");
     let mut outside = Parts::over(2, &[0b10, 0b11, 0b10]).knowing(&[0b00, 0b10, 0b10]);
     outside.head = 0b01;
-    all(&mut lines, &outside);
+    all(lines, &outside);
     lines.note("pairs", "pairs are facts at every goal");
     let mut pairs = Parts::over(2, &[0b01, 0b10, 0b01, 0b10]).knowing(&[0, 0, 1, 1]);
-    all(&mut lines, &pairs);
+    all(lines, &pairs);
     pairs.pairs = vec![(0, 1)];
-    all(&mut lines, &pairs);
+    all(lines, &pairs);
     lines.note("ticks", "ticks change nothing here");
     let mut timed = pairs.clone();
     timed.facts.iter_mut().zip([60_000, 7, 256, 2]).for_each(|(facts, ticks)| facts.ticks = ticks);
-    all(&mut lines, &timed);
+    all(lines, &timed);
     lines.note("as-version-1", "the same facts at each goal are those of version 1");
     for ground in 0..4 {
         let mut parts = Parts::over(2, &[0b11, 0b01, 0b10]);
@@ -296,6 +304,10 @@ pub(super) fn facts() -> Lines {
         lines.mel(&parts, 400);
         lines.mel(&parts.knowing(&[]), 400);
     }
+}
+
+/// Facts at a goal in full, on small clauses and on 32 goals.
+fn facts_in_full(lines: &mut Lines) {
     lines.note(
         "two-goals",
         "two goals over two variables: all sets, all ground sets that grow, listed or not",
@@ -344,8 +356,6 @@ pub(super) fn facts() -> Lines {
         let grounds: Vec<u64> = (0..32).map(|goal| (goal >= from) as u64).collect();
         lines.order(&Parts::over(1, &[1; 32]).knowing(&grounds));
     }
-    seeded(&mut lines);
-    lines
 }
 
 /// Seeded clauses of version 2, every operation.
