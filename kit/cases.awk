@@ -12,10 +12,10 @@ function short(text) {
     return length(text) > 150 ? substr(text, 1, 150) ".." : text
 }
 
-# Bytes in clear, from one of them on and at most 600: a line feed starts a new line.
+# Bytes in clear, from one of them on and at most 400: a line feed starts a new line.
 function clear(digits, from, text, at, byte) {
     if (digits == "-") return "(empty)"
-    for (at = 2 * from + 1; at < length(digits) && at < 2 * from + 1200; at += 2) {
+    for (at = 2 * from + 1; at < length(digits) && at < 2 * from + 800; at += 2) {
         byte = value(substr(digits, at, 2))
         if (byte == 10) text = text (at + 2 < length(digits) ? "\n            " : "")
         else text = text (byte > 31 && byte < 127 ? sprintf("%c", byte) : "\\x" substr(digits, at, 2))
@@ -52,7 +52,9 @@ function record(digits, words, goals, goal, at, fixed, long, pairs) {
         words = words "; "
         at += fixed + 2 * long
     }
-    for (pairs = value(substr(digits, 15, 2)); pairs > 0 && at + 3 <= length(digits); pairs--) {
+    pairs = value(substr(digits, 15, 2))
+    if (pairs > 0) words = words "independent "
+    for (; pairs > 0 && at + 3 <= length(digits); pairs--) {
         words = words value(substr(digits, at, 2)) "-" value(substr(digits, at + 2, 2)) " "
         at += 4
     }

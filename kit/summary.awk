@@ -14,6 +14,6 @@ END {
     if (skipped > 0) print "skipped, so neither right nor wrong:"
     for (operation in skips)
         printf "%6d %s: %s\n", skips[operation], operation, (operation in about ? about[operation] : "the program does not offer this operation")
-    if (agree == 0) print "nothing was compared"
+    if (agree + differ == 0) print "nothing was compared"
     exit differ > 0 || agree == 0
 }

@@ -84,7 +84,7 @@ tried 0 'usage: kit/run.sh' --help
 tried 0 "^kit $(cat kit/VERSION)\$" --version
 tried 0 '^drafts/whole-case.1  ' --list
 tried 0 '^            (1&2),3$' --show drafts/whole-case.2
-tried 0 '1 half {0}; 2 edge {1,2}; 3 join {0,2}; 0-1 0-2' --show drafts/whole-case.2
+tried 0 '1 half {0}; 2 edge {1,2}; 3 join {0,2}; independent 0-1 0-2' --show drafts/whole-case.2
 FILES="kit/vectors/after-03.txt" tried 0 '1096 agree' "$work/right"
 FILES="kit/none.txt" tried 2 'no such file of cases' "$work/right"
 
