@@ -211,6 +211,7 @@ fn close_rooms(lines: &mut Lines) {
         Parts::over(4, &[0b0111, 0b1011]),
         Parts::over(64, &[u64::MAX; 2]),
         Parts::over(64, &[high(10, 13), high(13, 16)]),
+        Parts::over(64, &(10..18).map(|x| 1 << x).collect::<Vec<u64>>()),
         Parts::over(64, &[high(10, 30), high(10, 33), high(30, 36)]),
         Parts::over(64, &[1 << 40; 32]),
         Parts::over(1, &[0; 32]),
