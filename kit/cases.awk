@@ -48,7 +48,7 @@ function record(digits, words, goals, goal, at, fixed, long, pairs) {
         long = value(substr(digits, at + fixed - 2, 2))
         words = words goal " " clear(substr(digits, at + fixed, 2 * long), 0) " " members(substr(digits, at, 16))
         if (fixed == 38) words = words " knowing " members(substr(digits, at + 16, 16)) \
-            " of " value(substr(digits, at + 32, 4))
+            " of " value(substr(digits, at + 32, 4)) " ticks"
         words = words "; "
         at += fixed + 2 * long
     }

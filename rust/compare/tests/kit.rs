@@ -1,7 +1,7 @@
 //! The kit's files are those that `kit-cases` writes, and `drafts`, taken from the paper's text
 //! by tools/paper_drafts.py; the hand-written annotator agrees with every one.
 
-use compare::cases::{Reference, Tally, run};
+use compare::cases::{LANDED, Reference, Tally, run};
 use compare::kit::files;
 use std::fs;
 use std::path::{Path, PathBuf};
@@ -46,4 +46,10 @@ fn the_drafts_come_out_as_printed() {
     let text = fs::read_to_string(kit().join("cases/drafts.txt")).unwrap();
     let tally = run(&Reference, &text, |_, _, _, _| ()).unwrap();
     assert!(tally.agree >= 40 && tally.differ == 0 && tally.skipped == 0, "{tally:?}");
+}
+
+#[test]
+fn the_version_names_the_requests() {
+    let version = fs::read_to_string(kit().join("VERSION")).unwrap();
+    assert_eq!(version.split('.').nth(1), Some(&*LANDED.to_string()), "{version}");
 }
