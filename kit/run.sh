@@ -1,58 +1,95 @@
 #!/bin/sh
-# Holds an annotator against the kit: kit/run.sh COMMAND [WORD..]
-#
-# COMMAND reads questions from standard input, one a line, and writes an answer a line to
-# standard output, in the same order; README.md has the format. It is started once a file.
-# FILES, if set, names the files to run, else all. Status 0 if no answer differs.
+# Holds an annotator against the conformance kit; `kit/run.sh --help` says how.
 set -eu
-if [ $# -eq 0 ]; then
-    echo "usage: kit/run.sh COMMAND [WORD..]" >&2
-    exit 2
-fi
-if ! command -v "$1" >/dev/null; then
-    echo "kit/run.sh: $1 is not a program that can be run" >&2
-    exit 2
-fi
 here=$(dirname "$0")
-work=$(mktemp -d)
-trap 'rm -rf "$work"' EXIT
+read -r version <"$here/VERSION"
+
+usage() {
+    cat <<'END'
+usage: kit/run.sh [--case NAME].. COMMAND [WORD..]    holds an annotator against the kit
+       kit/run.sh --list                              the name of every case, and what it tests
+       kit/run.sh --show NAME                         questions and expected answers, in clear too
+       kit/run.sh --version | --help
+
+COMMAND reads questions from standard input, one a line, and writes an answer a line to standard
+output, in the same order; README.md has the format. It is started once for each file of cases.
+NAME is a case (form/orders-of-3.2), a group (form/orders-of-3) or a file (form); FILES, if set,
+names the files of cases to take, else all of the kit.
+
+Status: 0 if no answer differs, 1 if one does, is missing or too much, if COMMAND ends with a
+status other than 0, or if nothing was compared; 2 for a wrong word or a COMMAND that cannot run.
+END
+}
+
+fail() {
+    echo "kit/run.sh: $1" >&2
+    exit 2
+}
+
+# cases MODE FILE [WORD..]: what cases.awk makes of a file of cases
+cases() {
+    mode=$1
+    file=$2
+    shift 2
+    awk -v mode="$mode" -v wanted="$wanted" "$@" -f "$here/cases.awk" "$file"
+}
+
+# every MODE: the same for all files; an error if none has a case that is asked for
+every() {
+    for file in ${FILES:-"$here"/cases/*.txt "$here"/vectors/*.txt}; do
+        cases "$1" "$file"
+    done | awk '{ print } END { exit NR == 0 }' || fail "no case is called ${wanted:-anything}; --list has the names"
+}
 
 for file in ${FILES:-"$here"/cases/*.txt "$here"/vectors/*.txt}; do
-    sed -e '/^#/d' -e '/^$/d' -e 's/ = .*//' "$file" >"$work/questions"
+    [ -f "$file" ] && [ -r "$file" ] || fail "$file: no such file of cases"
+done
+names=
+wanted=
+while [ $# -gt 0 ]; do
+    case $1 in
+    --help) usage && exit ;;
+    --version) echo "kit $version" && exit ;;
+    --list) every list && exit ;;
+    --show)
+        [ $# -eq 2 ] || fail "--show takes one NAME"
+        wanted=$2
+        every show && exit
+        ;;
+    --case)
+        [ $# -ge 2 ] || fail "--case takes a NAME"
+        names="$names $2"
+        shift 2
+        ;;
+    -*) fail "no option is called $1; --help says which there are" ;;
+    *) break ;;
+    esac
+done
+if [ $# -eq 0 ]; then
+    usage >&2
+    exit 2
+fi
+if ! command -v "$1" >/dev/null || { [ -f "$1" ] && [ ! -x "$1" ]; }; then
+    fail "$1 is not a program that can be run; one of this folder is called ./NAME"
+fi
+work=$(mktemp -d)
+trap 'rm -rf "$work"' EXIT
+trap 'exit 1' HUP INT TERM
+for wanted in $names; do
+    every list >/dev/null
+done
+wanted=$names
+every list >"$work/list"
+echo "kit $version, $(awk 'END { print NR }' "$work/list") cases"
+
+for file in ${FILES:-"$here"/cases/*.txt "$here"/vectors/*.txt}; do
+    cases questions "$file" >"$work/questions"
+    [ -s "$work/questions" ] || continue
     status=0
     "$@" <"$work/questions" >"$work/answers" || status=$?
-    if [ "$status" -ne 0 ]; then
-        echo "$1 ended with status $status on $file" >&2
-    fi
-    if [ "$status" -eq 126 ] || [ "$status" -eq 127 ]; then
-        exit 2
-    fi
-    awk -v answers="$work/answers" -v file="$file" '
-        function short(text) { return length(text) > 150 ? substr(text, 1, 150) ".." : text }
-        /^#/ || /^$/ { next }
-        {
-            at = index($0, " = ")
-            question = substr($0, 1, at - 1)
-            expected = substr($0, at + 3)
-            if ((getline given < answers) <= 0) given = "(no answer)"
-            sub(/\r$/, "", given)
-            given = tolower(given)
-            if (given == "skip") skipped++
-            else if (given == expected) agree++
-            else {
-                differ++
-                if (differ <= 3) {
-                    printf "%s, line %d: %s\n", file, FNR, short(question)
-                    printf "  expected %s\n  given    %s\n", short(expected), short(given)
-                }
-            }
-        }
-        END { printf "%6d agree %6d differ %6d skipped  %s\n", agree, differ, skipped, file }
-    ' "$file" | tee -a "$work/all"
+    case $status in 126 | 127) fail "$1 is not a program that can be run: status $status" ;; esac
+    cases compare "$file" -v answers="$work/answers" -v status="$status" >"$work/compared"
+    sed '/^skip /d' "$work/compared"
+    cat "$work/compared" >>"$work/all"
 done
-
-awk '$2 == "agree" { agree += $1; differ += $3; skipped += $5 }
-     END {
-         printf "%6d agree %6d differ %6d skipped  in all\n", agree, differ, skipped
-         exit differ > 0 || agree == 0
-     }' "$work/all"
+awk -f "$here/summary.awk" "$work/all"

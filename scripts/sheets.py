@@ -4,7 +4,8 @@
     scripts/sheets.py [SIZE..]        pieces of SIZE bytes; 1, 7, 1000 and 65536 if not given
 
 The program is target/bin/sheet, which `rt check sheet` builds; the environment variable SHEET names another. A piece is written when the
-program has read the one before. What the program prints must be the kit's answer, byte for byte, and its status 0.
+program has read the one before. What the program prints must be the kit's answer, byte for byte, its status 0, and what it leaves unread
+as many bytes as the kit's questions `unread` say.
 """
 import fcntl
 import glob
@@ -25,21 +26,23 @@ def unread(pipe):
 
 
 def fed(program, record, size):
-    """What the program prints for a record in pieces, and its status."""
+    """What the program prints for a record in pieces, its status, and how many bytes it leaves unread."""
     source, sink = os.pipe()
     with tempfile.TemporaryFile() as printed:
         with subprocess.Popen([program], stdin=source, stdout=printed) as process:
-            for at in range(0, len(record), size):
-                os.write(sink, record[at : at + size])
+            given = 0
+            while given < len(record):
+                given += os.write(sink, record[given : given + size])
                 while unread(source) and process.poll() is None:
                     time.sleep(0)
                 if process.poll() is not None:
                     break
             os.close(sink)
             status = process.wait()
+            left = unread(source) + len(record) - given
             os.close(source)
         printed.seek(0)
-        return printed.read(), status
+        return printed.read(), status, left
 
 
 def main():
@@ -51,17 +54,19 @@ def main():
         sys.exit(2)
     sizes = [int(word) for word in sys.argv[1:]] or [1, 7, 1000, 65536]
     paths = sorted(glob.glob(os.path.join(root, "kit/*/*.txt")))
-    sheets = [(place, *question.split()[2:], answer.split()[1]) for place, question, answer in cases(paths) if question.startswith("sheet ")]
+    asked = [case for case in cases(paths) if case.question.startswith(("sheet ", "unread "))]
     differ = 0
     for size in sizes:
-        for place, record, expected in sheets:
-            printed, status = fed(program, bytes_of(record), size)
-            if printed != bytes_of(expected) or status != 0:
+        for case in asked:
+            operation, _, record = case.question.split()
+            printed, status, left = fed(program, bytes_of(record), size)
+            given = f"ok {printed.hex()}" if operation == "sheet" else f"ok {left}"
+            if given != case.answer or status != 0:
                 differ += 1
                 if differ <= 5:
-                    print(f"{os.path.relpath(place, root)}, in pieces of {size} bytes: status {status}, {printed[:60]!r}")
-                    print(f"  expected {bytes_of(expected)[:60]!r}")
-        print(f"pieces of {size} bytes: {len(sheets)} sheets")
+                    print(f"{case.name}, in pieces of {size} bytes: status {status}, {given[:80]}")
+                    print(f"  expected {case.answer[:80]}")
+        print(f"pieces of {size} bytes: {len(asked)} questions")
     print(f"{differ} differ")
     sys.exit(1 if differ else 0)
 

@@ -1,10 +1,21 @@
 """Reading the conformance kit's cases (kit/README.md), for the scripts beside this one."""
+import os
+import re
 import sys
+from typing import NamedTuple
 
 # the field K: how many change requests have landed
 LANDED = 3
 # the number of fields behind OPERATION and K
-FIELDS = {"read": 1, "waits": 1, "order": 1, "form": 2, "length": 1, "mel": 2, "text": 2, "check": 2, "sheet": 1}
+FIELDS = {"read": 1, "waits": 1, "order": 1, "form": 2, "length": 1, "mel": 2, "text": 2, "check": 2, "sheet": 1, "unread": 1}
+
+
+class Case(NamedTuple):
+    # the file and line, for messages
+    place: str
+    name: str
+    question: str
+    answer: str
 
 
 def fail(message):
@@ -23,21 +34,34 @@ def read_text(path):
         fail(f"{path}: not a text file")
 
 
-def cases(paths):
-    """The cases of the files, in their order: the line's place, for messages, its question and its answer."""
+def cases_of(path):
+    """The cases of one file. A line `# GROUP: words` names the group of the next ones, which are called FILE/GROUP.1 and so on."""
     found = []
-    for path in paths:
-        for number, line in enumerate(read_text(path).split("\n"), 1):
-            if line and not line.startswith("#"):
-                question, _, answer = line.partition(" = ")
-                words = question.split(" ")
-                if not answer or FIELDS.get(words[0]) != len(words) - 2:
-                    fail(f"{path}:{number}: not a case of the kit's format")
-                if words[1] != str(LANDED):
-                    fail(f"{path}:{number}: the field K is not {LANDED}")
-                found.append((f"{path}:{number}", question, answer))
+    prefix, count = os.path.basename(path).removesuffix(".txt"), 0
+    group = prefix
+    for number, line in enumerate(read_text(path).split("\n"), 1):
+        named = re.match(r"# ([a-z0-9-]+): ", line)
+        if named:
+            group, count = f"{prefix}/{named[1]}", 0
+        if line and not line.startswith("#"):
+            question, _, answer = line.partition(" = ")
+            words = question.split(" ")
+            if not answer or FIELDS.get(words[0]) != len(words) - 2:
+                fail(f"{path}:{number}: not a case of the kit's format")
+            if words[1] != str(LANDED):
+                fail(f"{path}:{number}: the field K is not {LANDED}")
+            count += 1
+            found.append(Case(f"{path}:{number}", f"{group}.{count}", question, answer))
+    return found
+
+
+def cases(paths):
+    """The cases of the files, in their order."""
+    if not paths:
+        fail(f"no file is named; name files of the kit, as in {sys.argv[0]} kit/cases/*.txt kit/vectors/after-03.txt")
+    found = [case for path in paths for case in cases_of(path)]
     if not found:
-        fail(f"no cases; name files of the kit, as in {sys.argv[0]} kit/cases/drafts.txt kit/vectors/after-03.txt")
+        fail(f"no case stands in {' '.join(paths)}")
     return found
 
 
@@ -49,10 +73,13 @@ def bytes_of(field):
 
 
 def write_all(files):
-    """Writes the contents given for each path, once all are known."""
+    """Writes the contents given for each path, once all are known and every folder is there."""
+    for path in files:
+        if not os.path.isdir(os.path.dirname(path)):
+            fail(f"{os.path.dirname(path)}: no such folder; run from the repository's root")
     for path, content in files.items():
         try:
             with open(path, "wb") as f:
                 f.write(content)
         except OSError as error:
-            fail(f"{path}: {error.strerror}; run from the repository's root")
+            fail(f"{path}: {error.strerror}")

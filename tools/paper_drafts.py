@@ -254,16 +254,18 @@ def main(path, requests_path):
     for operation in ("form", "mel"):
         text_case(operation, data, re.search(f"^{operation} (.*)$", whole[3], re.M)[1])
     out = ["# The draft clauses that the papers print, and the ones of tools/more_drafts.md; tools/paper_drafts.py takes them from their text."]
-    out += ["", "# the whole case"] + lines
+    out += ["", "# whole-case: the record that the paper prints whole"] + lines
     lines.clear()
     last = b""
     theirs = drafts_in(section(paper, "Draft clauses to hold against it"))
     new = [replaced(draft, requests) for draft in theirs]
     if new == theirs:
         fail(f"{requests_path}: replaces no draft of this paper")
-    for draft in new + drafts_in(more):
+    named = [(f"draft-{at}", draft) for at, draft in enumerate(new, 1)]
+    named += [(f"more-{at}", draft) for at, draft in enumerate(drafts_in(more), 1)]
+    for name, draft in named:
         last = one_draft(draft, paper, last)
-        out += ["", f"# {draft}"] + lines
+        out += ["", f"# {name}: {draft}"] + lines
         lines.clear()
     write_all({os.path.join(root, "kit/cases/drafts.txt"): "".join(line + "\n" for line in out).encode("utf-8")})
     print(f"{sum(' = ' in line for line in out)} cases")

@@ -99,9 +99,11 @@ def said(edit, complaints):
 
 def main():
     if sys.argv[1:] not in ([], ["--check"]):
-        sys.exit(__doc__)
+        print(__doc__, file=sys.stderr)
+        sys.exit(2)
     if not TABLE.is_file():
-        sys.exit(f"{TABLE} is not here: run this from the repository's root")
+        print(f"{TABLE} is not here: run this from the repository's root", file=sys.stderr)
+        sys.exit(2)
     complaints, rows, seen = [], [], set()
     for line in TABLE.read_text(encoding="utf-8").split("\n"):
         m = ROW.match(line)

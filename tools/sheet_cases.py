@@ -1,9 +1,9 @@
 #!/usr/bin/env python3
 """Writes what the program `sheet_limits` is run on, and what it must print.
 
-    tools/sheet_cases.py CASES..        from the repository's root
+    tools/sheet_cases.py kit/cases/sheet.txt kit/cases/mel-long.txt        from the repository's root
 
-CASES are files of the conformance kit's format (kit/README.md) that have sheets: kit/cases/sheet.txt and kit/cases/mel-long.txt. Each
+The words are files of the conformance kit's format (kit/README.md) that have sheets. Each
 record that the program names is the first of theirs with the property below; it goes to crates/sheet_limits/data, and the sheets that
 the kit says, in the program's order, to crates/sheet_limits/stdout.
 """
@@ -29,10 +29,10 @@ WANTED = {
 }
 
 sheets = []
-for place, question, answer in cases(sys.argv[1:]):
-    operation, _, *fields = question.split()
+for case in cases(sys.argv[1:]):
+    operation, _, *fields = case.question.split()
     if operation == "sheet":
-        sheets.append((bytes_of(fields[0]), bytes_of(answer.split()[1])))
+        sheets.append((bytes_of(fields[0]), bytes_of(case.answer.split()[1])))
 files, printed = {}, b""
 for name in re.findall(r'print_sheet\(b"([^"]*)\.lfj"\)', read_text("crates/sheet_limits/src/main.rt")):
     if name not in WANTED:

@@ -1,10 +1,10 @@
 #!/usr/bin/env python3
 """Writes crates/run_texts/stdin and crates/run_texts/stdout: texts to read, and what the paper and the vectors say of them.
 
-    tools/text_cases.py CASES..        from the repository's root
+    tools/text_cases.py kit/cases/drafts.txt kit/cases/readings.txt kit/vectors/after-03.txt        from the repository's root
 
-CASES are files of the conformance kit's format (kit/README.md): kit/cases/drafts.txt, which tools/paper_drafts.py takes from the
-paper, kit/cases/readings.txt and kit/vectors/after-02.txt. The expectation is the answer of each `check` line whose record is accepted,
+The words are files of the conformance kit's format (kit/README.md); drafts.txt is taken from the paper by tools/paper_drafts.py. The
+expectation is the answer of each `check` line whose record is accepted,
 never what the program printed: refusals 15 to 17 as they stand, and `read` for a text that got a verdict.
 """
 import sys
@@ -16,7 +16,7 @@ INPUT, TEXT = 65536, 1024
 OF_TEXTS = (15, 16, 17)
 
 found = {}
-for place, question, answer in cases(sys.argv[1:]):
+for place, _, question, answer in cases(sys.argv[1:]):
     operation, _, record, *rest = question.split()
     said = answer.split()
     if operation != "check" or said[0] == "refused" and int(said[1]) not in OF_TEXTS:
@@ -25,9 +25,9 @@ for place, question, answer in cases(sys.argv[1:]):
         fail(f"{place}: the text is longer than {TEXT} bytes")
     goals = bytes_of(record)[5]
     found[f"{goals} {rest[0]}\n"] = (answer if said[0] == "refused" else "read") + "\n"
-given, wanted = "".join(found).encode("ascii"), "".join(found.values()).encode("ascii")
 if not found:
     fail("no case in these files asks for the check of a text")
+given, wanted = "".join(found).encode("ascii"), "".join(found.values()).encode("ascii")
 if len(given) > INPUT:
     fail(f"the lines are longer than the program's {INPUT} bytes")
 write_all({"crates/run_texts/stdin": given, "crates/run_texts/stdout": wanted})

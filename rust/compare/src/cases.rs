@@ -1,8 +1,9 @@
 //! Cases as lines of text, `OPERATION K INPUT.. = ANSWER..`, and what an annotator answers.
 //! The format is explained in the kit's README.
 
-use crate::sheet::sheet;
+use crate::sheet::{read_part, sheet};
 use crate::{Order, Refusal, Verdict};
+use std::hint::black_box;
 
 /// The field K: how many change requests have landed.
 pub const LANDED: u8 = 3;
@@ -20,6 +21,9 @@ pub trait Annotator {
     /// Place and length.
     fn goal_text(&self, record: &[u8], goal: u32) -> Result<(u32, u32), Refusal>;
     fn check(&self, record: &[u8], text: &[u8]) -> Result<Verdict, Refusal>;
+    /// How many bytes of standard input the program that prints the sheet leaves unread;
+    /// `None` if there is no program.
+    fn unread(&self, input: &[u8]) -> Option<usize>;
 }
 
 /// The annotator of this crate.
@@ -53,6 +57,9 @@ impl Annotator for Reference {
     fn check(&self, record: &[u8], text: &[u8]) -> Result<Verdict, Refusal> {
         crate::check(record, text)
     }
+    fn unread(&self, input: &[u8]) -> Option<usize> {
+        Some(input.len() - read_part(input).len())
+    }
 }
 
 /// Bytes in hexadecimal, `-` where there are none.
@@ -76,10 +83,10 @@ pub fn unhex(text: &str) -> Result<Vec<u8>, String> {
     digits.chunks(2).map(|two| Ok((value(two[0])? << 4 | value(two[1])?) as u8)).collect()
 }
 
-/// A refusal as an answer.
+/// A refusal as an answer. Its goals are shown where they are not 0, which is right for 13 alone.
 pub fn refused(refusal: Refusal) -> String {
     let mut line = format!("refused {} {}", refusal.number, refusal.place);
-    if refusal.number == 13 {
+    if refusal.goals != [0; 4] {
         for goal in refusal.goals {
             line += &format!(" {goal}");
         }
@@ -95,55 +102,84 @@ fn rows(order: Order) -> String {
     line
 }
 
+/// Bytes on each side of a lent buffer, which nobody may change.
+const MARGIN: usize = 64;
+
 /// Calls a writer with a buffer of `room` bytes and says what it left there. A byte that
-/// should have been kept and was not is an error.
+/// should have been kept and was not is an error: any byte of a call that is refused, else one
+/// behind the text, and one beside the buffer.
 fn written(
     room: usize,
     write: impl FnOnce(&mut [u8]) -> Result<u32, Refusal>,
 ) -> Result<Result<String, Refusal>, String> {
     const KEPT: u8 = 0xa5;
-    let mut out = vec![KEPT; room];
-    let answer = write(&mut out);
+    let mut bytes = vec![KEPT; MARGIN + room + MARGIN];
+    let answer = write(&mut bytes[MARGIN..MARGIN + room]);
+    let bytes = black_box(bytes);
     let length = *answer.as_ref().unwrap_or(&0) as usize;
-    if length > room || out[length..].iter().any(|byte| *byte != KEPT) {
-        return Err("a byte behind the text was changed".to_string());
+    if length > room {
+        return Err(format!("a length of {length} bytes in a buffer of {room}"));
     }
-    Ok(answer.map(|_| format!("ok {length} {}", hex(&out[..length]))))
+    let (text, rest) = bytes[MARGIN..].split_at(length);
+    if bytes[..MARGIN].iter().chain(rest).any(|byte| *byte != KEPT) {
+        return Err(match &answer {
+            Ok(_) => "a byte outside the text was changed".to_string(),
+            Err(refusal) => format!("{}, and a lent byte was changed", refused(*refusal)),
+        });
+    }
+    Ok(answer.map(|_| format!("ok {length} {}", hex(text))))
+}
+
+/// Calls an operation that only reads these bytes. One that changed them is an error.
+fn reading<T>(bytes: &[u8], call: impl FnOnce(&[u8]) -> T) -> Result<T, String> {
+    let lent = bytes.to_vec();
+    let answer = call(&lent);
+    match black_box(lent) == bytes {
+        true => Ok(answer),
+        false => Err("a byte of the record or the text was changed".to_string()),
+    }
 }
 
 /// What the annotator answers to `OPERATION K INPUT..`. `skip` for what it does not offer.
 pub fn answer(annotator: &impl Annotator, question: &str) -> Result<String, String> {
     let words: Vec<&str> = question.split(' ').collect();
     let field = |at: usize| words.get(at).copied().ok_or(format!("too short: {question}"));
-    let bytes = |at: usize| unhex(field(at)?);
-    let number = |at: usize| field(at)?.parse::<u32>().map_err(|e| format!("{e}: {question}"));
     if field(1)? != LANDED.to_string() {
         return Ok("skip".to_string());
     }
-    let record = bytes(2)?;
-    let answer = match field(0)? {
-        "read" => annotator.read(&record).map(|_| "ok".to_string()),
-        "waits" => match annotator.waits(&record) {
-            Some(waits) => waits.map(rows),
-            None => Ok("skip".to_string()),
-        },
-        "order" => annotator.order(&record).map(rows),
-        "after" => annotator.after(&record, number(3)?).map(|set| format!("ok {set:08x}")),
-        "form" => written(number(3)? as usize, |out| annotator.form(&record, out))?,
-        "length" => annotator.form_length(&record).map(|length| format!("ok {length}")),
-        "mel" => written(number(3)? as usize, |out| annotator.mel(&record, out))?,
-        "text" => annotator.goal_text(&record, number(3)?).map(|(place, length)| {
+    reading(&unhex(field(2)?)?, |record| operation(annotator, record, &words))?
+}
+
+/// The operation of a question whose words are given.
+fn operation(annotator: &impl Annotator, record: &[u8], words: &[&str]) -> Result<String, String> {
+    let field = || words.get(3).copied().ok_or(format!("too short: {}", words.join(" ")));
+    let number = || field()?.parse::<u32>().map_err(|e| format!("{e}: {}", words.join(" ")));
+    let skip = || Ok("skip".to_string());
+    let answer = match words[0] {
+        "read" => annotator.read(record).map(|_| "ok".to_string()),
+        "waits" => annotator.waits(record).map_or_else(skip, |waits| waits.map(rows)),
+        "order" => annotator.order(record).map(rows),
+        "after" => annotator.after(record, number()?).map(|set| format!("ok {set:08x}")),
+        "form" => written(number()? as usize, |out| annotator.form(record, out))?,
+        "length" => annotator.form_length(record).map(|length| format!("ok {length}")),
+        "mel" => written(number()? as usize, |out| annotator.mel(record, out))?,
+        "text" => annotator.goal_text(record, number()?).map(|(place, length)| {
             let text = &record[place as usize..][..length as usize];
             format!("ok {place} {length} {}", hex(text))
         }),
-        "check" => annotator.check(&record, &bytes(3)?).map(|verdict| match verdict {
-            Verdict::Same => "same".to_string(),
-            Verdict::Differs(i, j) => format!("differs {i} {j}"),
-        }),
-        "sheet" => Ok(format!("ok {}", hex(&sheet(annotator, &record)))),
+        "check" => reading(&unhex(field()?)?, |text| annotator.check(record, text))?.map(verdict),
+        "sheet" => Ok(format!("ok {}", hex(&sheet(annotator, record)))),
+        "unread" => annotator.unread(record).map_or_else(skip, |rest| Ok(format!("ok {rest}"))),
         other => return Err(format!("no operation is called {other}")),
     };
     Ok(answer.unwrap_or_else(refused))
+}
+
+fn verdict(verdict: Verdict) -> String {
+    match verdict {
+        Verdict::Same => "same".to_string(),
+        Verdict::Differs(i, j) => format!("differs {i} {j}"),
+    }
 }
 
 /// How the answers to a list of cases came out.

@@ -1,8 +1,8 @@
 //! A second annotator of half-motif clauses, written by hand from the papers
-//! `01-scope.md` ("01") and `02-change-requests.md` ("02"), requests 1 and 2, and apart from the
-//! proved one. It is the reference of the
-//! differential test and the yardstick of the benchmark, so it is fast: goal sets are
-//! `u32`, variable sets `u64`, nothing is allocated, a record is decoded once a call.
+//! `01-scope.md` ("01") and `02-change-requests.md` ("02"), requests 1 to 3, and apart from the
+//! proved one. It is the reference of the differential test and the yardstick of the benchmark,
+//! so it is fast: goal sets are `u32`, variable sets `u64`, nothing is allocated, a record is
+//! decoded once a call.
 //! With the feature `proved` the proved one can be asked the same questions.
 //!
 //! ```
@@ -35,6 +35,7 @@ mod order;
 #[cfg(feature = "proved")]
 pub mod proved;
 mod record;
+pub mod serve;
 mod sheet;
 
 pub use expression::{TEXT_LIMIT, Verdict};

@@ -75,4 +75,8 @@ impl Annotator for Proved {
             lfj::Verdict::Differs(i, j) => Ok(Verdict::Differs(i, j)),
         }
     }
+    /// A library has no program.
+    fn unread(&self, _: &[u8]) -> Option<usize> {
+        None
+    }
 }

@@ -8,9 +8,14 @@ pub const INPUT_LIMIT: usize = 4096;
 /// A longer MEL annotation is not printed.
 pub const MEL_LIMIT: usize = 32768;
 
+/// The part of standard input that is read.
+pub fn read_part(input: &[u8]) -> &[u8] {
+    &input[..input.len().min(INPUT_LIMIT)]
+}
+
 /// What the program prints for this standard input, from an annotator's answers.
 pub fn sheet(annotator: &impl Annotator, input: &[u8]) -> Vec<u8> {
-    let record = &input[..input.len().min(INPUT_LIMIT)];
+    let record = read_part(input);
     let goals = match annotator.read(record) {
         Ok(goals) => goals,
         Err(refusal) => {

@@ -25,17 +25,22 @@ pub struct File {
 pub(crate) struct Lines {
     file: File,
     asked: HashSet<String>,
+    groups: HashSet<String>,
 }
 
 impl Lines {
     fn new(name: &'static str, about: &str) -> Lines {
         let file = File { name, text: format!("# {about}\n"), cases: 0 };
-        Lines { file, asked: HashSet::new() }
+        Lines { file, asked: HashSet::new(), groups: HashSet::new() }
     }
 
-    /// A heading: what the next cases test.
-    fn note(&mut self, words: &str) {
-        self.file.text += &format!("\n# {words}\n");
+    /// The heading of a group, whose cases are called FILE/GROUP.1, FILE/GROUP.2 and so on, and
+    /// what they test.
+    fn note(&mut self, group: &str, words: &str) {
+        assert!(self.groups.insert(group.to_string()), "two groups are called {group}");
+        let plain = |sign: u8| sign.is_ascii_lowercase() || sign.is_ascii_digit() || sign == b'-';
+        assert!(group.bytes().all(plain), "{group}");
+        self.file.text += &format!("\n# {group}: {words}\n");
     }
 
     /// A case with the hand-written annotator's answer. The same question is asked once.
@@ -90,6 +95,10 @@ impl Lines {
         self.ask(format!("sheet {LANDED} {}", hex(input)));
     }
 
+    fn unread(&mut self, input: &[u8]) {
+        self.ask(format!("unread {LANDED} {}", hex(input)));
+    }
+
     /// The text that a writer gives, with room enough.
     fn expect_form(&mut self, parts: &Parts, text: &str) {
         let question = format!("form {LANDED} {} 146", hex(&parts.record()));
@@ -136,6 +145,22 @@ fn every_order(goals: usize) -> Vec<Parts> {
 /// A clause in which just these goals wait.
 fn waiting(goals: usize, waits: &[(usize, usize)]) -> Parts {
     Parts::with_waits(goals, waits).expect("few pairs")
+}
+
+/// A clause of 32 goals of which just the given ones, ascending, hold a variable, one each, and
+/// just the listed ones wait.
+fn among(goals: &[usize], waits: &[(usize, usize)]) -> Parts {
+    let mut sets = [0; 32];
+    for (variable, goal) in goals.iter().enumerate() {
+        sets[goal - 1] = 1 << variable;
+    }
+    let mut parts = Parts::over(goals.len() as u8, &sets);
+    for (x, y) in all_pairs(goals.len()) {
+        if !waits.contains(&(goals[x - 1], goals[y - 1])) {
+            parts.pairs.push((x as u8 - 1, y as u8 - 1));
+        }
+    }
+    parts
 }
 
 /// Every file of the kit.

@@ -1,0 +1,64 @@
+#!/bin/sh
+# Tests that the scripts of tools/ which write files of the repository write none where they are
+# called wrongly: no name, a name of no file, a file without a case of their kind, another folder.
+set -eu
+cd "$(dirname "$0")/.."
+work=$(mktemp -d)
+trap 'rm -rf "$work"' EXIT
+tests=0
+
+# sums: a checksum of each file that a tool can write
+sums() {
+    cksum crates/run_cases/data/* crates/run_cases/stdout crates/run_texts/stdin \
+        crates/run_texts/stdout crates/sheet_limits/data/* crates/sheet_limits/stdout \
+        kit/cases/*.txt docs/PROMISES.md
+}
+
+# refused TOOL WORD..: it ends with status 2, says something, and writes nothing
+refused() {
+    status=0
+    python3 "$@" >"$work/output" 2>&1 || status=$?
+    sums >"$work/after"
+    if [ "$status" -ne 2 ] || [ ! -s "$work/output" ] || ! cmp -s "$work/before" "$work/after"; then
+        cat "$work/output"
+        echo "test_tools.sh: $*: status $status, expected 2, or a file was written" >&2
+        exit 1
+    fi
+    tests=$((tests + 1))
+}
+
+sums >"$work/before"
+echo '# no case' >"$work/empty.txt"
+echo 'read 3 00 = refused 1 1' >"$work/read.txt"
+echo 'unread 3 00 = ok 0' >"$work/unread.txt"
+echo 'check 3 00 = ' >"$work/broken.txt"
+echo 'read 2 00 = refused 1 1' >"$work/other.txt"
+for tool in expectations text_cases sheet_cases; do
+    refused tools/$tool.py
+    refused tools/$tool.py kit/cases/none.txt
+    refused tools/$tool.py kit/cases/form.txt kit/cases/none.txt
+    refused tools/$tool.py kit/cases
+    for name in empty unread broken other; do
+        refused tools/$tool.py "$work/$name.txt"
+    done
+done
+refused tools/text_cases.py "$work/read.txt"
+refused tools/text_cases.py kit/cases/form.txt
+refused tools/sheet_cases.py kit/cases/form.txt
+refused tools/paper_drafts.py
+refused tools/paper_drafts.py kit/README.md
+refused tools/paper_drafts.py none.md none.md
+refused tools/paper_drafts.py kit/README.md kit/README.md
+refused tools/promises.py --wrong
+here=$PWD
+cd "$work"
+for tool in expectations text_cases; do
+    status=0
+    python3 "$here/tools/$tool.py" "$here/kit/cases/drafts.txt" >output 2>&1 || status=$?
+    if [ "$status" -ne 2 ] || ! grep -q "repository's root" output; then
+        echo "test_tools.sh: $tool.py outside the repository: status $status, expected 2" >&2
+        exit 1
+    fi
+    tests=$((tests + 1))
+done
+echo "$tests tests of tools/*.py: a wrong word writes nothing"
