@@ -22,7 +22,6 @@
 
 pub mod build;
 pub mod cases;
-pub mod describe;
 mod expression;
 mod form;
 pub mod generate;
