@@ -36,7 +36,7 @@ OPERATORS = "operators"
 # functions that no question of the kit reaches: one row of the order
 NOT_ASKED = ("pub fn after(bytes", "pub fn after_goal(")
 # the crate's other parts, which answering does not need
-LEFT_OUT = ("pub mod build;", "pub mod describe;", "pub mod generate;", "pub mod kit;")
+LEFT_OUT = ("pub mod build;", "pub mod generate;", "pub mod kit;")
 RUSTC = ["rustc", "--edition", "2024", "-A", "warnings", "-C", "opt-level=0", "-C", "overflow-checks=off", "-C", "panic=abort"]
 # seconds of the processor for all questions of the kit; a right program takes less than one
 TIME = 2

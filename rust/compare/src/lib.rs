@@ -24,7 +24,6 @@
 pub mod arrays;
 pub mod build;
 pub mod cases;
-pub mod describe;
 mod expression;
 mod form;
 pub mod generate;

@@ -204,26 +204,36 @@ fn mel_readings(lines: &mut Lines) {
     lines.expect(format!("mel {LANDED} {} 0", hex(&long.record())), "refused 12 188354");
 }
 
+/// A sample: its name, its description and its record.
+macro_rules! sample {
+    ($name:literal) => {
+        (
+            $name,
+            include_str!(concat!("../../../../samples/", $name, ".txt")),
+            &include_bytes!(concat!("../../../../samples/", $name, ".lfj"))[..],
+        )
+    };
+}
+
 pub(super) fn samples() -> Lines {
     let mut lines = Lines::new("samples", "The twelve samples: what the sheet prints for each.");
-    for (name, text) in [
-        ("half-motif", include_str!("../../../../samples/half-motif.txt")),
-        ("document-003", include_str!("../../../../samples/document-003.txt")),
-        ("no-form", include_str!("../../../../samples/no-form.txt")),
-        ("deep-nesting", include_str!("../../../../samples/deep-nesting.txt")),
-        ("ground-facts", include_str!("../../../../samples/ground-facts.txt")),
-        ("ground-on-the-way", include_str!("../../../../samples/ground-on-the-way.txt")),
-        ("durations", include_str!("../../../../samples/durations.txt")),
-        ("three-stages", include_str!("../../../../samples/three-stages.txt")),
-        ("longest-form", include_str!("../../../../samples/longest-form.txt")),
-        ("long-mel", include_str!("../../../../samples/long-mel.txt")),
-        ("refused-cut", include_str!("../../../../samples/refused-cut.txt")),
-        ("refused-pair", include_str!("../../../../samples/refused-pair.txt")),
+    for (name, text, record) in [
+        sample!("half-motif"),
+        sample!("document-003"),
+        sample!("no-form"),
+        sample!("deep-nesting"),
+        sample!("ground-facts"),
+        sample!("ground-on-the-way"),
+        sample!("durations"),
+        sample!("three-stages"),
+        sample!("longest-form"),
+        sample!("long-mel"),
+        sample!("refused-cut"),
+        sample!("refused-pair"),
     ] {
         let about = text.lines().next().unwrap_or("").trim_start_matches("# ");
         lines.note(name, about);
-        let described = crate::describe::read(text).expect("a sample");
-        lines.sheet(&described.record);
+        lines.sheet(record);
     }
     lines
 }
