@@ -236,8 +236,15 @@ static const struct operation *operation_called(const char *name)
     return NULL;
 }
 
-/* Answers one question. Skipped are the waits before closure, which the library does not
- * offer, and what another number of landed requests settles. */
+/* Is it an operation that the library does not offer: the waits before closure, and what the
+ * sheet's program leaves of its input? */
+static int not_offered(const char *name)
+{
+    return strcmp(name, "waits") == 0 || strcmp(name, "unread") == 0;
+}
+
+/* Answers one question. Skipped is what the library does not offer, and what another number of
+ * landed requests settles. */
 static void answer_question(struct text *out, char *question)
 {
     const char *words[5] = {NULL, NULL, NULL, NULL, NULL};
@@ -248,7 +255,7 @@ static void answer_question(struct text *out, char *question)
     char *word;
     for (word = strtok(question, " "); word != NULL && count < 5; word = strtok(NULL, " "))
         words[count++] = word;
-    if (count > 1 && (strcmp(words[0], "waits") == 0 || atoi(words[1]) != LANDED)) {
+    if (count > 1 && (not_offered(words[0]) || atoi(words[1]) != LANDED)) {
         text_print(out, "skip");
         return;
     }

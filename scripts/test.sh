@@ -24,8 +24,10 @@ samples      sh scripts/test_samples.sh
 compare      sh rust/compare.sh 20000
 stack        sh rust/stack.sh
 packages     sh scripts/test_packages.sh
+runner       sh scripts/test_kit.sh
+tools        sh scripts/test_tools.sh
+rules        sh scripts/kit_format.sh --check
 END
-    [ ! -f "$top/scripts/test_kit.sh" ] || echo 'kit-itself   sh scripts/test_kit.sh'
 }
 
 # chosen PART NAME..: is it one of those named? All are, if none is.

@@ -93,4 +93,8 @@ if [ -n "$twice" ]; then
     echo "test_kit.sh: two cases are called $twice" >&2
     exit 1
 fi
+if ! grep -q "^#define LFJ_VERSION_TEXT \"$(cat kit/VERSION)\"\$" include/lfj.h; then
+    echo "test_kit.sh: kit/VERSION is $(cat kit/VERSION), which is not the header's version" >&2
+    exit 1
+fi
 echo "$tests tests of kit/run.sh; $cases cases, each with a name of its own"
