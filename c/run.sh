@@ -55,7 +55,7 @@ sh kit/run.sh "$out/answers" >"$out/kit.log" || {
     cat "$out/kit.log" >&2
     fail "the C face differs from the kit"
 }
-echo "the kit by the C face: $(tail -n 1 "$out/kit.log")"
+echo "the kit by the C face: $(grep " in all\$" "$out/kit.log")"
 
 compiled sheet
 count=0
