@@ -13,7 +13,7 @@ the program means the same.
     --all    prints for each fault by which case it was found
     --only   plants those alone whose kind or place has one of the words
 
-Prints a table by kind. Status 0 if every fault was found, 1 if one passed, 2 for a wrong word. All faults take about half an hour.
+Prints a table by kind. Status 0 if every fault was found, 1 if one passed, 2 for a wrong word. All faults take about ten minutes of one processor.
 """
 import glob
 import os

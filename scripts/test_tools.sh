@@ -27,6 +27,14 @@ refused() {
     tests=$((tests + 1))
 }
 
+# A case program without a case prints `no case`, which must not be what is expected of it.
+for output in crates/run_cases/stdout crates/run_texts/stdout crates/sheet_limits/stdout; do
+    if [ ! -s $output ] || grep -q '^no case$' $output; then
+        echo "test_tools.sh: $output expects no case" >&2
+        exit 1
+    fi
+    tests=$((tests + 1))
+done
 sums >"$work/before"
 echo '# no case' >"$work/empty.txt"
 echo 'read 3 00 = refused 1 1' >"$work/read.txt"
