@@ -3,7 +3,9 @@
 #   scripts/kit_format.sh           copies it
 #   scripts/kit_format.sh --check   writes nothing; status 1 if the two differ
 set -eu
-cd "$(dirname "$0")/.."
+top=$(CDPATH='' cd -- "$(dirname -- "$0")/.." && pwd)
+. "$top/scripts/script.sh"
+cd "$top"
 case "$*" in
 "") cp docs/FORMAT.md kit/FORMAT.md ;;
 --check)
@@ -12,8 +14,6 @@ case "$*" in
         exit 1
     fi
     ;;
-*)
-    echo "usage: scripts/kit_format.sh [--check]" >&2
-    exit 2
-    ;;
+--help) show_help ;;
+*) wrong_usage "it takes no argument but --check" ;;
 esac

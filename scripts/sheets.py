@@ -18,7 +18,7 @@ import time
 
 root = os.path.join(os.path.dirname(os.path.abspath(__file__)), "..")
 sys.path.insert(0, os.path.join(root, "tools"))
-from kit_cases import bytes_of, cases, fail
+from kit_cases import bytes_of, cases, fail, help_asked
 
 
 def unread(pipe):
@@ -71,4 +71,5 @@ def main():
     sys.exit(1 if differ else 0)
 
 
+help_asked(__doc__)
 main()

@@ -2,7 +2,10 @@
 # Tests kit/run.sh with small annotators that answer from the kit's own files, rightly or not,
 # in a copy of the kit in a folder of its own.
 set -eu
-cd "$(dirname "$0")/.."
+top=$(CDPATH='' cd -- "$(dirname -- "$0")/.." && pwd)
+. "$top/scripts/script.sh"
+no_arguments "$@"
+cd "$top"
 work=$(mktemp -d)
 trap 'rm -rf "$work"' EXIT
 mkdir "$work/a folder"

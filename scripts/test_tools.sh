@@ -2,7 +2,10 @@
 # Tests that the scripts of tools/ which write files of the repository write none where they are
 # called wrongly: no name, a name of no file, a file without a case of their kind, another folder.
 set -eu
-cd "$(dirname "$0")/.."
+top=$(CDPATH='' cd -- "$(dirname -- "$0")/.." && pwd)
+. "$top/scripts/script.sh"
+no_arguments "$@"
+cd "$top"
 work=$(mktemp -d)
 trap 'rm -rf "$work"' EXIT
 tests=0

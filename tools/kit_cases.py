@@ -18,6 +18,13 @@ class Case(NamedTuple):
     answer: str
 
 
+def help_asked(words):
+    """Prints the script's words and ends it with status 0, if they are asked for."""
+    if "--help" in sys.argv[1:]:
+        print(words.strip())
+        sys.exit(0)
+
+
 def fail(message):
     """Ends the script with status 2."""
     print(f"{sys.argv[0]}: {message}", file=sys.stderr)

@@ -13,6 +13,7 @@ The column has the function or the law, the fact of it that is not met, and wher
 import pathlib
 import re
 import sys
+from kit_cases import help_asked
 
 TABLE = pathlib.Path("docs/PROMISES.md")
 ROW = re.compile(r"^\| (.*) \| `(\w+/\w+)` \|(?: (.*))? \|$")
@@ -131,4 +132,5 @@ def main():
     print(f"{len(seen)} rows written, {len(complaints)} to look at")
 
 
+help_asked(__doc__)
 main()
