@@ -20,11 +20,6 @@ out=target/c
 mkdir -p "$out"
 warnings="-Wall -Wextra -pedantic -Wconversion -Wshadow -Werror"
 
-fail() {
-    echo "$1" >&2
-    exit 1
-}
-
 # compiled NAME: builds c/NAME.c over the library
 compiled() {
     $CC -std=c99 -O2 $warnings -Iinclude "c/$1.c" "$LFJ_LIB_DIR/liblfj.a" -o "$out/$1" ||

@@ -26,6 +26,12 @@ fail() {
     exit 2
 }
 
+# answer WORD..: runs the command for its output alone
+answer() {
+    "$@" || exit 2
+    exit 0
+}
+
 # cases MODE FILE [WORD..]: what cases.awk makes of a file of cases
 cases() {
     mode=$1
@@ -36,9 +42,15 @@ cases() {
 
 # every MODE: the same for all files; an error if none has a case that is asked for
 every() {
+    status=0
     for file in ${FILES:-"$here"/cases/*.txt "$here"/vectors/*.txt}; do
         cases "$1" "$file"
-    done | awk '{ print } END { exit NR == 0 }' || fail "no case is called ${wanted:-anything}; --list has the names"
+    done | awk '{ print } END { exit NR == 0 }' || status=$?
+    case $status in
+    0) ;;
+    1) fail "no case is called ${wanted:-anything}; --list has the names" ;;
+    *) exit 2 ;; # it could not be written
+    esac
 }
 
 for file in ${FILES:-"$here"/cases/*.txt "$here"/vectors/*.txt}; do
@@ -48,13 +60,13 @@ names=
 wanted=
 while [ $# -gt 0 ]; do
     case $1 in
-    --help) usage && exit ;;
-    --version) echo "kit $version" && exit ;;
-    --list) every list && exit ;;
+    -h | --help) answer usage ;;
+    --version) answer echo "kit $version" ;;
+    --list) answer every list ;;
     --show)
         [ $# -eq 2 ] || fail "--show takes one NAME"
         wanted=$2
-        every show && exit
+        answer every show
         ;;
     --case)
         [ $# -ge 2 ] || fail "--case takes a NAME"

@@ -13,6 +13,10 @@ answer() {
     exit 0
 }
 
+version() {
+    answer sed -n 's/^version = "\(.*\)"$/annotate \1/p' "$here/Cargo.toml"
+}
+
 # wrong COMMAND WORDS: what is wrong with the words behind a command
 wrong() {
     echo "annotate $1: $2" >&2
@@ -25,9 +29,7 @@ case ${1-} in
 -h | --help)
     answer cat "$help/annotate.txt"
     ;;
---version)
-    answer sed -n 's/^version = "\(.*\)"$/annotate \1/p' "$here/Cargo.toml"
-    ;;
+--version) version ;;
 sheet) options="--names" ;;
 draw) options="--text -o" ;;
 record) options="--hex" ;;
@@ -57,6 +59,7 @@ for word in "$@"; do
         -h | --help)
             answer cat "$help/$command.txt"
             ;;
+        --version) version ;;
         -?*)
             case " $options " in
             *" $word "*) [ "$word" != -o ] || skip=out ;;

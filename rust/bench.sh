@@ -7,8 +7,8 @@
 set -eu
 top=$(CDPATH='' cd -- "$(dirname -- "$0")/.." && pwd)
 . "$top/scripts/script.sh"
+about "$@"
 case ${1:-} in
---help) show_help && exit 0 ;;
 -*) wrong_usage "no option is called $1" ;;
 esac
 sh "$top/rust/build.sh"

@@ -8,10 +8,10 @@
 set -eu
 top=$(CDPATH='' cd -- "$(dirname -- "$0")/.." && pwd)
 . "$top/scripts/script.sh"
+about "$@"
 package=${1-}
 [ $# -le 1 ] || wrong_usage "one package at most, and no more words"
 case $package in
---help) no_arguments --help ;;
 "" | annotate | compare | lfj) ;;
 *) wrong_usage "no package is called $package; they are annotate, compare and lfj" ;;
 esac

@@ -7,8 +7,8 @@
 set -eu
 top=$(CDPATH='' cd -- "$(dirname -- "$0")/.." && pwd)
 . "$top/scripts/script.sh"
+about "$@"
 case ${1:-} in
---help) show_help && exit 0 ;;
 --case) [ $# -eq 2 ] || wrong_usage "--case takes one question" ;;
 -*) wrong_usage "no option is called $1" ;;
 *)

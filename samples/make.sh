@@ -1,22 +1,14 @@
 #!/bin/sh
+# usage: samples/make.sh
 # Writes each sample's files anew from its description (.txt): the record (.lfj), its hexadecimal
 # (.hex), its sheet by the hand-written annotator (.sheet), which the proved one is held against,
 # and its picture (.svg) if the record is accepted.
 set -eu
-case ${1-} in
-"") ;;
--h | --help)
-    sed -n '2,/^set/s/^# //p' "$0" || exit 2
-    exit 0
-    ;;
---version) exec sh "$(dirname "$0")/../rust/annotate.sh" --version ;;
-*)
-    echo "usage: samples/make.sh     it takes no words; --help says what it writes" >&2
-    exit 2
-    ;;
-esac
-sh "$(dirname "$0")/../rust/build.sh" >&2
-cd "$(dirname "$0")"
+top=$(CDPATH='' cd -- "$(dirname -- "$0")/.." && pwd)
+. "$top/scripts/script.sh"
+no_arguments "$@"
+sh "$top/rust/build.sh" >&2
+cd "$top/samples"
 annotate=../rust/target/release/annotate
 reference=../rust/target/release/reference-sheet
 

@@ -12,9 +12,6 @@ umask 022
 top=$(CDPATH='' cd -- "$(dirname -- "$0")/.." && pwd)
 . "$top/scripts/script.sh"
 . "$top/scripts/package.sh"
-if [ "${1:-}" = --version ] && [ $# -eq 1 ]; then
-    echo "lfj $(product_version)" && exit 0 || exit 2
-fi
 no_arguments "$@"
 if ! tar --version 2>/dev/null | grep -q GNU; then
     echo "$0: tar is not GNU tar, which is needed for archives that are always the same" >&2
@@ -24,8 +21,7 @@ fi
 
 name=lfj-$(product_version)-x86_64-linux
 mkdir -p "$top/target"
-work=$(mktemp -d)
-trap 'rm -rf "$work"' EXIT
+work_folder
 stage=$work/$name
 
 # shellcheck disable=SC2016 # pkg-config puts in the folder of lfj.pc

@@ -12,12 +12,11 @@ umask 022
 top=$(CDPATH='' cd -- "$(dirname -- "$0")/.." && pwd)
 . "$top/scripts/script.sh"
 . "$top/scripts/package.sh"
+about "$@"
 prefix=/usr/local
 destdir=
 while [ $# -gt 0 ]; do
     case $1 in
-    --help) show_help && exit 0 ;;
-    --version) echo "lfj $(product_version)" && exit 0 || exit 2 ;;
     --prefix | --destdir)
         [ -n "${2:-}" ] || wrong_usage "$1 wants a folder"
         case $1 in

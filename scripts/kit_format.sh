@@ -5,6 +5,7 @@
 set -eu
 top=$(CDPATH='' cd -- "$(dirname -- "$0")/.." && pwd)
 . "$top/scripts/script.sh"
+about "$@"
 cd "$top"
 case "$*" in
 "") cp docs/FORMAT.md kit/FORMAT.md ;;
@@ -14,6 +15,5 @@ case "$*" in
         exit 1
     fi
     ;;
---help) show_help ;;
 *) wrong_usage "it takes no argument but --check" ;;
 esac

@@ -1,11 +1,6 @@
 # What install.sh and archive.sh share. To be sourced behind script.sh; put_library also wants
 # what static-library.sh sets.
 
-# product_version: the version that the header says
-product_version() {
-    sed -n 's/^#define LFJ_VERSION_TEXT "\(.*\)"$/\1/p' "$top/include/lfj.h"
-}
-
 # put FILE FOLDER: copies FILE into FOLDER, which is made
 put() {
     mkdir -p "$2" && cp "$1" "$2" && chmod 644 "$2/${1##*/}" && return

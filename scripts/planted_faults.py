@@ -27,7 +27,7 @@ from typing import NamedTuple
 
 root = os.path.join(os.path.dirname(os.path.abspath(__file__)), "..")
 sys.path.insert(0, os.path.join(root, "tools"))
-from kit_cases import cases, fail, help_asked, read_text
+from kit_cases import about, cases, fail, read_text
 
 # the annotator's own files, in rust/compare/src
 FILES = ["lib.rs", "record.rs", "order.rs", "form.rs", "expression.rs", "mel.rs", "numbers.rs", "sheet.rs"]
@@ -284,5 +284,5 @@ def main(words):
 
 
 if __name__ == "__main__":
-    help_asked(__doc__)
+    about(__doc__)
     main(sys.argv[1:])

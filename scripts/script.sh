@@ -13,13 +13,51 @@ wrong_usage() {
     exit 2
 }
 
-# no_arguments WORD..: for a script that takes none but --help
+# product_version: the version that the header says
+product_version() {
+    sed -n 's/^#define LFJ_VERSION_TEXT "\(.*\)"$/\1/p' "$top/include/lfj.h"
+}
+
+# about WORD..: answers --help and --version, wherever they stand. Every script calls it first,
+# before anything is built.
+about() {
+    for word; do
+        case $word in
+        -h | --help)
+            show_help
+            exit 0
+            ;;
+        --version)
+            echo "lfj $(product_version)" || exit 2
+            exit 0
+            ;;
+        esac
+    done
+}
+
+# no_arguments WORD..: for a script that takes none but --help and --version
 no_arguments() {
-    if [ $# -eq 1 ] && [ "$1" = --help ]; then
-        show_help
-        exit 0
-    fi
+    about "$@"
     [ $# -eq 0 ] || wrong_usage "it takes no argument, and got $1"
+}
+
+# fail WORDS: says what went wrong
+fail() {
+    echo "${0##*/}: $1" >&2
+    exit 1
+}
+
+# work_folder: sets `work` to a folder of the script's own, which goes when the script ends
+work_folder() {
+    work=$(mktemp -d)
+    trap 'rm -rf "$work"' EXIT
+}
+
+# begin_test WORD..: for a test without arguments, which runs at the repository's root
+begin_test() {
+    no_arguments "$@"
+    cd "$top"
+    work_folder
 }
 
 # is_number WORD: is it a decimal number?

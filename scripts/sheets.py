@@ -18,7 +18,7 @@ import time
 
 root = os.path.join(os.path.dirname(os.path.abspath(__file__)), "..")
 sys.path.insert(0, os.path.join(root, "tools"))
-from kit_cases import bytes_of, cases, fail, help_asked
+from kit_cases import about, bytes_of, cases, fail
 
 
 def unread(pipe):
@@ -71,5 +71,5 @@ def main():
     sys.exit(1 if differ else 0)
 
 
-help_asked(__doc__)
+about(__doc__)
 main()

@@ -26,6 +26,7 @@ stack        sh rust/stack.sh
 packages     sh scripts/test_packages.sh
 runner       sh scripts/test_kit.sh
 tools        sh scripts/test_tools.sh
+about        sh scripts/test_about.sh
 rules        sh scripts/kit_format.sh --check
 END
 }
@@ -57,9 +58,9 @@ run_part() {
     failed=$((failed + 1))
 }
 
+about "$@"
 for word; do
     case $word in
-    --help) show_help && exit 0 ;;
     --list) parts && exit 0 ;;
     -*) wrong_usage "no option is called $word" ;;
     esac

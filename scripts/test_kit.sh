@@ -4,10 +4,7 @@
 set -eu
 top=$(CDPATH='' cd -- "$(dirname -- "$0")/.." && pwd)
 . "$top/scripts/script.sh"
-no_arguments "$@"
-cd "$top"
-work=$(mktemp -d)
-trap 'rm -rf "$work"' EXIT
+begin_test "$@"
 mkdir "$work/a folder"
 cp -r kit "$work/a folder/kit"
 kit="$work/a folder/kit"
@@ -32,8 +29,7 @@ tried() {
     sh "$kit/run.sh" "$@" >"$work/output" 2>&1 || status=$?
     if [ "$status" -ne "$wanted" ] || ! grep -q -e "$text" "$work/output"; then
         cat "$work/output"
-        echo "test_kit.sh: run.sh $*: status $status, expected $wanted and the text: $text" >&2
-        exit 1
+        fail "run.sh $*: status $status, expected $wanted and the text: $text"
     fi
     tests=$((tests + 1))
 }
@@ -93,11 +89,9 @@ FILES="kit/none.txt" tried 2 'no such file of cases' "$work/right"
 
 twice=$(sh kit/run.sh --list | awk '{ print $1 }' | sort | uniq -d)
 if [ -n "$twice" ]; then
-    echo "test_kit.sh: two cases are called $twice" >&2
-    exit 1
+    fail "two cases are called $twice"
 fi
 if ! grep -q "^#define LFJ_VERSION_TEXT \"$(cat kit/VERSION)\"\$" include/lfj.h; then
-    echo "test_kit.sh: kit/VERSION is $(cat kit/VERSION), which is not the header's version" >&2
-    exit 1
+    fail "kit/VERSION is $(cat kit/VERSION), which is not the header's version"
 fi
 echo "$tests tests of kit/run.sh; $cases cases, each with a name of its own"

@@ -13,13 +13,7 @@ top=$(CDPATH='' cd -- "$(dirname -- "$0")/.." && pwd)
 no_arguments "$@"
 . "$top/scripts/static-library.sh"
 CC=${CC:-cc}
-work=$(mktemp -d)
-trap 'rm -rf "$work"' EXIT
-
-fail() {
-    echo "$1" >&2
-    exit 1
-}
+work_folder
 
 # path_without_rt: the path without the folders that have rt
 path_without_rt() {

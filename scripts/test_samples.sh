@@ -10,13 +10,7 @@ top=$(CDPATH='' cd -- "$(dirname -- "$0")/.." && pwd)
 no_arguments "$@"
 sh "$top/rust/build.sh"
 annotate=$top/rust/target/release/annotate
-work=$(mktemp -d)
-trap 'rm -rf "$work"' EXIT
-
-fail() {
-    echo "$1" >&2
-    exit 1
-}
+work_folder
 
 # prints EXPECTED STATUS WORD..: annotate WORD.. has to print the file EXPECTED, with that status
 prints() {

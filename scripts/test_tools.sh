@@ -4,10 +4,7 @@
 set -eu
 top=$(CDPATH='' cd -- "$(dirname -- "$0")/.." && pwd)
 . "$top/scripts/script.sh"
-no_arguments "$@"
-cd "$top"
-work=$(mktemp -d)
-trap 'rm -rf "$work"' EXIT
+begin_test "$@"
 tests=0
 
 # sums: a checksum of each file that a tool can write
@@ -24,8 +21,7 @@ refused() {
     sums >"$work/after"
     if [ "$status" -ne 2 ] || [ ! -s "$work/output" ] || ! cmp -s "$work/before" "$work/after"; then
         cat "$work/output"
-        echo "test_tools.sh: $*: status $status, expected 2, or a file was written" >&2
-        exit 1
+        fail "$*: status $status, expected 2, or a file was written"
     fi
     tests=$((tests + 1))
 }
@@ -33,8 +29,7 @@ refused() {
 # A case program without a case prints `no case`, which must not be what is expected of it.
 for output in crates/run_cases/stdout crates/run_texts/stdout crates/sheet_limits/stdout; do
     if [ ! -s $output ] || grep -q '^no case$' $output; then
-        echo "test_tools.sh: $output expects no case" >&2
-        exit 1
+        fail "$output expects no case"
     fi
     tests=$((tests + 1))
 done
@@ -67,8 +62,7 @@ for tool in expectations text_cases; do
     status=0
     python3 "$here/tools/$tool.py" "$here/kit/cases/drafts.txt" >output 2>&1 || status=$?
     if [ "$status" -ne 2 ] || ! grep -q "repository's root" output; then
-        echo "test_tools.sh: $tool.py outside the repository: status $status, expected 2" >&2
-        exit 1
+        fail "$tool.py outside the repository: status $status, expected 2"
     fi
     tests=$((tests + 1))
 done

@@ -12,12 +12,12 @@ program's arrays is an error, but for a record that is refused at a place within
 of so many is never refused for being too short.
 """
 import sys
-from kit_cases import bytes_of, cases, fail, help_asked, write_all
+from kit_cases import about, bytes_of, cases, fail, write_all
 
 # the lengths of the arrays of crates/run_cases/src/main.rt
 LINE, RECORD, TEXT, ROOM = 32768, 4096, 1024, 196608
 
-help_asked(__doc__)
+about(__doc__)
 questions, answers, left_out = [], [], 0
 for place, _, question, answer in cases(sys.argv[1:]):
     operation, _, record, *rest = question.split()

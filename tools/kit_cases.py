@@ -18,11 +18,29 @@ class Case(NamedTuple):
     answer: str
 
 
-def help_asked(words):
-    """Prints the script's words and ends it with status 0, if they are asked for."""
-    if "--help" in sys.argv[1:]:
-        print(words.strip())
-        sys.exit(0)
+def product_version():
+    """The version that the header says."""
+    header = read_text(os.path.join(os.path.dirname(os.path.abspath(__file__)), "../include/lfj.h"))
+    return re.search(r'^#define LFJ_VERSION_TEXT "(.*)"$', header, re.MULTILINE)[1]
+
+
+def answer(text):
+    """Prints the text and ends the script: with status 2 if it cannot be written."""
+    try:
+        print(text, flush=True)
+    except OSError as error:
+        print(f"{sys.argv[0]}: {error.strerror}", file=sys.stderr, flush=True)
+        os._exit(2)  # which does not try to write it again
+    sys.exit(0)
+
+
+def about(words):
+    """Answers --help with the script's words and --version with the header's, and ends the script."""
+    for word in sys.argv[1:]:
+        if word in ("-h", "--help"):
+            answer(words.strip())
+        if word == "--version":
+            answer(f"lfj {product_version()}")
 
 
 def fail(message):

@@ -13,7 +13,7 @@ import itertools
 import os
 import re
 import sys
-from kit_cases import LANDED, fail, help_asked, read_text, write_all
+from kit_cases import LANDED, about, fail, read_text, write_all
 
 WORDS = {"one": 1, "two": 2, "three": 3, "four": 4, "five": 5}
 ROOM = 400
@@ -271,7 +271,7 @@ def main(path, requests_path):
     print(f"{sum(' = ' in line for line in out)} cases")
 
 
-help_asked(__doc__)
+about(__doc__)
 if len(sys.argv) != 3:
     print(__doc__, file=sys.stderr)
     sys.exit(2)

@@ -9,7 +9,7 @@ the kit says, in the program's order, to crates/sheet_limits/stdout.
 """
 import re
 import sys
-from kit_cases import bytes_of, cases, fail, help_asked, read_text, write_all
+from kit_cases import about, bytes_of, cases, fail, read_text, write_all
 
 
 def mel(sheet):
@@ -28,7 +28,7 @@ WANTED = {
     "mel-past-limit": lambda record, sheet: mel(sheet) == b"refused 12 32769",
 }
 
-help_asked(__doc__)
+about(__doc__)
 sheets = []
 for case in cases(sys.argv[1:]):
     operation, _, *fields = case.question.split()

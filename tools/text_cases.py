@@ -8,14 +8,14 @@ expectation is the answer of each `check` line whose record is accepted,
 never what the program printed: refusals 15 to 17 as they stand, and `read` for a text that got a verdict.
 """
 import sys
-from kit_cases import bytes_of, cases, fail, help_asked, write_all
+from kit_cases import about, bytes_of, cases, fail, write_all
 
 # the length of the program's input array, and of the array of a text
 INPUT, TEXT = 65536, 1024
 # the refusals of a text; any other is the record's
 OF_TEXTS = (15, 16, 17)
 
-help_asked(__doc__)
+about(__doc__)
 found = {}
 for place, _, question, answer in cases(sys.argv[1:]):
     operation, _, record, *rest = question.split()

@@ -54,6 +54,8 @@ impl Command {
         while let Some(word) = words.next() {
             if word == "--help" || word == "-h" {
                 return Ok(Asked::Text(self.help));
+            } else if word == "--version" {
+                return Ok(Asked::Text(VERSION));
             } else if word.starts_with('-') && word != "-" {
                 if !self.options.contains(&word.as_str()) {
                     return Err(self.wrong(format!("`{word}` is none of its options")));

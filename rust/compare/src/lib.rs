@@ -20,6 +20,7 @@
 //! ```
 #![forbid(unsafe_code)]
 
+pub mod about;
 #[cfg(feature = "proved")]
 pub mod arrays;
 pub mod build;

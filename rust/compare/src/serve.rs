@@ -1,5 +1,6 @@
 //! A program that answers the kit's questions: one line `OPERATION K INPUT..` in, one answer out.
 
+use crate::about;
 use crate::cases::{Annotator, LANDED, answer, hex, unhex};
 use std::io::{self, BufRead, Read, Write};
 use std::process::{Command, ExitCode, Stdio};
@@ -33,16 +34,21 @@ fn program_answer(program: &str, question: &str) -> Option<Result<String, String
     }))
 }
 
-/// Answers the questions of standard input. With the words `--sheet PROGRAM` the questions
-/// `sheet` and `unread` go to that program; else the sheet is put together from the other
-/// operations' answers.
+const HELP: &str = "\
+Answers the questions of standard input, one a line, in the kit's format (kit/README.md).
+The questions `sheet` and `unread` go to PROGRAM, if it is given; else the sheet is put together
+from the other operations' answers.
+";
+
+/// Answers the questions of standard input, as `HELP` says.
 pub fn serve(name: &str, annotator: &impl Annotator) -> ExitCode {
-    let words: Vec<String> = std::env::args().skip(1).collect();
+    let usage = format!("usage: {name} [--sheet PROGRAM] < QUESTIONS\n");
+    let words = about::words(name, &format!("{usage}{HELP}"));
     let program = match &words[..] {
         [] => None,
         [option, program] if option == "--sheet" => Some(program),
         _ => {
-            eprintln!("usage: {name} [--sheet PROGRAM] < QUESTIONS");
+            eprint!("{usage}");
             return ExitCode::from(2);
         }
     };

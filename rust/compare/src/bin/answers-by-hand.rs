@@ -1,9 +1,5 @@
 //! Answers the kit's questions by the hand-written annotator, without the proved library: one
 //! line `OPERATION K INPUT..` in, one answer out.
-//!
-//! ```text
-//! answers-by-hand [--sheet PROGRAM] < QUESTIONS
-//! ```
 
 use compare::cases::Reference;
 use std::process::ExitCode;

@@ -1,9 +1,5 @@
 //! Answers the kit's questions by the proved library: one line `OPERATION K INPUT..` in, one
 //! answer out.
-//!
-//! ```text
-//! answers [--sheet PROGRAM] < QUESTIONS
-//! ```
 
 use compare::proved::Proved;
 use std::process::ExitCode;

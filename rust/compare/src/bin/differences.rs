@@ -1,14 +1,7 @@
 //! The proved annotator against the hand-written one, on seeded records and texts, valid
 //! and damaged, every operation, short buffers included.
-//!
-//! ```text
-//! differences [CASES [SEED]]     200000 cases and seed 1 if not given
-//! differences --case 'LINE'      both answers to one question in the kit's format
-//! ```
-//!
-//! Ends with status 0 if there is no difference and every refusal, verdict, form and no
-//! form was met.
 
+use compare::about;
 use compare::arrays::Arrays;
 use compare::cases::{Annotator, LANDED, Reference, answer, hex, refused, unhex};
 use compare::generate::{self, Random};
@@ -18,6 +11,13 @@ use lfj::c;
 use std::fmt::Debug;
 use std::process::ExitCode;
 use std::time::Instant;
+
+const HELP: &str = "\
+usage: differences [CASES [SEED]]     200000 cases and seed 1 if not given
+       differences --case 'LINE'      both answers to one question in the kit's format
+The proved annotator against the hand-written one, on seeded cases.
+Status 0 if there is no difference and every refusal, verdict, form and no form was met.
+";
 
 /// Bytes on each side of a lent buffer that nobody may change.
 const MARGIN: usize = 64;
@@ -382,12 +382,12 @@ fn one(question: &str) -> ExitCode {
 }
 
 fn usage() -> ExitCode {
-    eprintln!("usage: differences [CASES [SEED]] | differences --case 'OPERATION 1 INPUT..'");
+    eprint!("{HELP}");
     ExitCode::from(2)
 }
 
 fn main() -> ExitCode {
-    let words: Vec<String> = std::env::args().skip(1).collect();
+    let words = about::words("differences", HELP);
     if words.first().is_some_and(|word| word == "--case") {
         let [_, question] = &words[..] else { return usage() };
         return one(question);

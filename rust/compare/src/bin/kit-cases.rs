@@ -1,16 +1,18 @@
 //! Writes the conformance kit's cases anew: one file a group, into the folder named.
-//!
-//! ```text
-//! kit-cases FOLDER
-//! ```
 
+use compare::about;
 use std::path::Path;
 use std::process::ExitCode;
 
+const HELP: &str = "\
+usage: kit-cases FOLDER
+Writes the conformance kit's cases into the folder, one file a group.
+";
+
 fn main() -> ExitCode {
-    let words: Vec<String> = std::env::args().skip(1).collect();
+    let words = about::words("kit-cases", HELP);
     let [folder] = &words[..] else {
-        eprintln!("usage: kit-cases FOLDER");
+        eprint!("{HELP}");
         return ExitCode::from(2);
     };
     let mut all = 0;

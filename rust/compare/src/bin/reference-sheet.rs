@@ -1,13 +1,15 @@
 //! The sheet by the hand-written annotator, for the samples: a record from standard input, the
 //! sheet to standard output.
-//!
-//! ```text
-//! reference-sheet <samples/half-motif.lfj
-//! ```
 
+use compare::about;
 use compare::cases::Reference;
 use std::io::{Read, Write, stdin, stdout};
 use std::process::ExitCode;
+
+const HELP: &str = "\
+usage: reference-sheet <RECORD
+Prints the sheet of a record by the hand-written annotator.
+";
 
 fn run() -> std::io::Result<()> {
     let mut record = Vec::new();
@@ -18,8 +20,8 @@ fn run() -> std::io::Result<()> {
 }
 
 fn main() -> ExitCode {
-    if std::env::args().len() > 1 {
-        eprintln!("usage: reference-sheet <RECORD");
+    if !about::words("reference-sheet", HELP).is_empty() {
+        eprint!("{HELP}");
         return ExitCode::from(2);
     }
     match run() {

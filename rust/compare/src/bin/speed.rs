@@ -1,16 +1,18 @@
 //! How long each operation takes, proved and hand-written: both in this process, on the same
 //! buffers, by turns.
-//!
-//! ```text
-//! speed [WORD..]                  only the lines that hold every word; all if none is given
-//! speed random [SEED [CLAUSES]]   the ratios over random clauses, 300 if no number is given
-//! ```
 
+use compare::about;
 use compare::build::Parts;
 use compare::generate::{Random, clause, padded};
 use lfj::c;
 use std::hint::black_box;
 use std::time::{Duration, Instant};
+
+const HELP: &str = "\
+usage: speed [WORD..]                  only the lines that hold every word; all if none is given
+       speed random [SEED [CLAUSES]]   the ratios over random clauses, 300 if no number is given
+How long each operation takes, proved and hand-written, as a table.
+";
 
 /// How long one batch of calls should take, and how many batches each side has.
 struct Effort {
@@ -321,7 +323,7 @@ fn spread(seed: u64, clauses: usize) {
 }
 
 fn main() {
-    let words: Vec<String> = std::env::args().skip(1).collect();
+    let words = about::words("speed", HELP);
     if words.first().is_some_and(|word| word == "random") {
         let number = |place: usize, usual: u64| match words.get(place).map(|word| word.parse()) {
             None => usual,

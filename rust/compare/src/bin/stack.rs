@@ -1,20 +1,22 @@
 //! Calls each operation of the proved library at its worst input. To be run on a small
 //! stack, which the calls have to do with: all buffers here are on the heap.
-//!
-//! ```text
-//! stack             every call, one line each
-//! stack NAME        the one call of this name
-//! stack --names     the names
-//! stack --use KB    uses so much stack itself: shows that the limit holds
-//! ```
 
 // Buffers of a few bytes would do on the stack; here it is what is measured.
 #![allow(clippy::useless_vec)]
 
+use compare::about;
 use compare::build::Parts;
 use compare::generate::padded;
 use lfj::{Refusal, Verdict};
 use std::process::ExitCode;
+
+const HELP: &str = "\
+usage: stack             every call, one line each
+       stack NAME        the one call of this name
+       stack --names     the names
+       stack --use KB    uses so much stack itself: shows that the limit holds
+Calls each operation of the proved library at its worst input.
+";
 
 /// A name and a call that says whether the answer was the expected one.
 type Call = (&'static str, fn() -> bool);
@@ -131,7 +133,7 @@ fn deep(kilobytes: usize) -> u8 {
 }
 
 fn main() -> ExitCode {
-    let words: Vec<String> = std::env::args().skip(1).collect();
+    let words = about::words("stack", HELP);
     let one = words.first().map(String::as_str);
     if one == Some("--names") {
         CALLS.iter().for_each(|(name, _)| println!("{name}"));
