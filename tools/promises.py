@@ -6,14 +6,14 @@
     tools/promises.py --check   writes nothing; exit status 1 if the column is out of date
 
 Both name an edit that has no row, a row that has no edit, a log that is missing, and an edit whose first error is not a fact of a
-promise: a callee's precondition (of a program, which has no promise, nothing else can be refused), or a proof file that only no
-longer fits the code. A row is `| wrong version | `CRATE/LABEL` | .. |`.
+promise: a callee's precondition or that a number fits its type (of a program, which has no promise, nothing else can be refused), a
+proof file that only no longer fits the code, or a goal at which the prover gave up. A row is `| wrong version | `CRATE/LABEL` | .. |`.
 The column has the function or the law, the fact of it that is not met, and where the two sides differ, if that is short.
 """
 import pathlib
 import re
 import sys
-from kit_cases import help_asked
+from kit_cases import about
 
 TABLE = pathlib.Path("docs/PROMISES.md")
 ROW = re.compile(r"^\| (.*) \| `(\w+/\w+)` \|(?: (.*))? \|$")
@@ -21,6 +21,10 @@ ERROR = re.compile(r"^\S*?/must-fail/\w+/\w+/(\S+?):\d+:\d+: error: (.*)$")
 # an error that only follows from another one
 FOLLOWS = ("was not admitted",)
 UNFIT = "can be named from here"
+# the prover could not tell
+GAVE_UP = "stopped at a bound of its own"
+# a fact that the code itself asks for, as that a number fits its type
+ASKED = re.compile(r"(add|sub|mul|cast|shl|shr|index)-")
 
 
 def blocks(log):
@@ -93,6 +97,10 @@ def said(edit, complaints):
     fact, rest = (m.group(1), m.group(2)) if m else ("", message)
     if UNFIT in message:
         complaints.append(f"{edit}: the proof only no longer fits the code ({path})")
+    elif GAVE_UP in message:
+        complaints.append(f"{edit}: the prover gave up ({path}, {fact})")
+    elif ASKED.match(fact) and not program(edit):
+        complaints.append(f"{edit}: a fact that the code asks for comes first ({path}, {fact})")
     elif re.search(r"requires(-\d+)?$", fact) and not program(edit):
         complaints.append(f"{edit}: a callee's precondition comes first ({path}, {fact})")
     return f"{place(path)}, `{fact}`: {difference(rest)}" if fact else f"{place(path)}: {difference(rest)}"
@@ -132,5 +140,5 @@ def main():
     print(f"{len(seen)} rows written, {len(complaints)} to look at")
 
 
-help_asked(__doc__)
+about(__doc__)
 main()

@@ -44,11 +44,12 @@ use Rattle.mel.specs.declared.MelAnswer as Mels
 use Rattle.mel.specs.declared.MelAnswer.the-variants as T
 use Rattle.annotator.specs.declared.ReadAnswer.{ReadAnswer}
 use Rattle.annotator.specs.declared.ReadAnswer.the-variants.{Accepted as Count, Refused}
-use Rattle.annotator.specs.declared.TextAnswer.{TextAnswer}
-use Rattle.annotator.specs.declared.TextAnswer.the-variants.{At, NoText}
+use Rattle.record_text.specs.declared.TextAnswer.{TextAnswer}
+use Rattle.record_text.specs.declared.TextAnswer.the-variants.{At, NoText}
 use Rattle.annotator.specs.declared.CheckAnswer.{CheckAnswer}
 use Rattle.annotator.specs.declared.CheckAnswer.the-variants.{Verdict, Rejected}
-use Rattle.annotator.specs.Answers.{read, readOutcome, goalText, textOutcome, noSpan, check, checkOutcome}
+use Rattle.record_text.specs.Texts.{goalText, textOutcome, noSpan}
+use Rattle.annotator.specs.Answers.{read, readOutcome, check, checkOutcome}
 use Rattle.record.specs.Limits.{OfReading}
 use Rattle.annotator.specs.Cases.{OfText, OfCheck, OfForm, OfLength, OfMel, Refuses, Numbers, OneAnswer}
 

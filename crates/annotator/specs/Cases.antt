@@ -13,9 +13,10 @@ use Rattle.form.specs.declared.FormAnswer.{FormAnswer}
 use Rattle.mel.specs.Annotation as M
 use Rattle.mel.specs.declared.MelAnswer.{MelAnswer}
 use Rattle.annotator.specs.declared.ReadAnswer.{ReadAnswer}
-use Rattle.annotator.specs.declared.TextAnswer.{TextAnswer}
+use Rattle.record_text.specs.declared.TextAnswer.{TextAnswer}
 use Rattle.annotator.specs.declared.CheckAnswer.{CheckAnswer}
-use Rattle.annotator.specs.Answers.{read, readOutcome, goalText, textOutcome, noSpan, check, checkOutcome}
+use Rattle.record_text.specs.Texts.{goalText, textOutcome, noSpan}
+use Rattle.annotator.specs.Answers.{read, readOutcome, check, checkOutcome}
 
 -- ---- 01, "What each operation turns down": the refusals of reading, which starts every operation, and those of its own.
 abbrev pub OfText : ℕ → Type 0

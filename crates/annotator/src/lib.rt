@@ -12,28 +12,28 @@
 // form(bytes, out)        the length of the house form's text, which fills the start of `out`  reading, 13, 12      form: Form.formAnswer, shown, formBuffer
 // form_length(bytes)      the length of the house form's text, exactly                         reading, 13          form: Form.formLength, shown
 // mel(bytes, out)         the length of the MEL annotation, which fills the start of `out`     reading, 12          mel: Annotation.melAnswer, melBuffer
-// find_text(bytes, goal)  the place and the length of the goal's text in the record            reading, 14          Answers.goalText
-// goal_text(bytes, goal)  the part of the lent record that holds this text                     as find_text         Answers.textPart, Part.PartAt
+// find_text(bytes, goal)  the place and the length of the goal's text in the record            reading, 14          record_text: Texts.goalText
+// goal_text(bytes, goal)  the part of the lent record that holds this text                     as find_text         record_text: Texts.textPart, Part.PartAt
 // check(bytes, text)      "same", or "differs" with the first i, then j                        reading, 15, 16, 17  Answers.check; expression_grammar: Check
 //
 // The definitions are those of specs/ here, or of the crate named before a colon. Rows past n are empty, and a refused record's graph is the empty one of
 // 0 goals. Behind its text `out` is kept. With any refusal, which find_text names, the part is the empty one at the record's start. For i and j just one
-// of the two orders, the record's and the text's, has i before j. `inside` is no operation: the test behind 14, for callers that have a goal count.
+// of the two orders, the record's and the text's, has i before j.
 use graph::Graph;
 use order_compare::Verdict;
 use record_rules::Reading;
 use record_rules::Refusal;
+use record_text::TextAnswer;
 ghost use mathlib.Core.Path.{_≡_};
-ghost use mathlib.Core.Bool.{_&&_};
-ghost use lib.Dec.{leb};
 ghost use Rattle.order.specs.Order.{before};
 ghost use Rattle.expression_grammar.specs.Check.{checked};
 ghost use Rattle.record_fields.specs.Fields as F;
 ghost use Rattle.record.specs.WellFormed.{WellFormed};
 ghost use Rattle.form.specs.Form as P;
 ghost use Rattle.mel.specs.Annotation as M;
+ghost use Rattle.record_text.specs.Texts as T;
+ghost use Rattle.record_text.specs.Part.{PartAt};
 ghost use Rattle.annotator.specs.Answers as W;
-ghost use Rattle.annotator.specs.Part.{PartAt};
 
 // Reading: the goal count, or a refusal.
 pub enum ReadAnswer {
@@ -45,17 +45,6 @@ pub enum ReadAnswer {
 pub struct OrderAnswer {
     pub reading: ReadAnswer,
     pub graph: Graph,
-}
-
-// Where a goal's text stands in the record.
-pub struct Span {
-    pub place: usize,
-    pub size: usize,
-}
-
-pub enum TextAnswer {
-    At(Span),
-    NoText(Refusal),
 }
 
 // The check of an expression: a verdict, or a refusal.
@@ -119,49 +108,18 @@ pub fn mel(bytes: &[u8], out: &mut [u8]) -> mel::MelAnswer
     mel::write(bytes, out)
 }
 
-// Whether g is the number of one of n goals: from 1 to n.
-pub fn inside(g: usize, n: usize) -> bool
-    ensures { λ r. ⌜ r ≡ (leb 1 g && leb g n) ⌝ }
-{
-    (1 <= g) & (g <= n)
-}
-
 // Where the text of a goal stands, or why there is none.
 pub fn find_text(bytes: &[u8], goal: u32) -> TextAnswer
-    ensures { λ r. ⌜ W.textOutcome r ≡ W.goalText (now (bytes .entry)) goal ⌝ }
+    ensures { λ r. ⌜ T.textOutcome r ≡ T.goalText (now (bytes .entry)) goal ⌝ }
 {
-    match record::read(bytes) {
-        Reading::Refused(r) => TextAnswer::NoText(r),
-        Reading::Fine => {
-            let g = goal as usize;
-            let n = record_fields::goal_count(bytes);
-            if inside(g, n) {
-                let at = record_fields::goal_place(bytes, g);
-                let own = record_fields::own_facts(bytes);
-                let place = record_fields::text_at(bytes, at, own);
-                let size = record_fields::text_length_at(bytes, at, own);
-                return TextAnswer::At(Span { place, size });
-            }
-            TextAnswer::NoText(Refusal {
-                number: 14,
-                place: 0,
-            })
-        }
-    }
+    record_text::find(bytes, goal)
 }
 
 // The text of a goal, as the part of the lent record that holds it; with any refusal the empty part at the record's start.
 pub fn goal_text(bytes: &[u8], goal: u32) -> &[u8]
-    ensures { λ r. ⌜ PartAt (bytes .entry) (W.textPart (now (bytes .entry)) goal .place) (W.textPart (now (bytes .entry)) goal .size) r ⌝ }
+    ensures { λ r. ⌜ PartAt (bytes .entry) (T.textPart (now (bytes .entry)) goal .place) (T.textPart (now (bytes .entry)) goal .size) r ⌝ }
 {
-    match find_text(bytes, goal) {
-        TextAnswer::At(s) => {
-            let a = s.place;
-            let e = a + s.size;
-            &bytes[a..e]
-        }
-        TextAnswer::NoText(_) => &bytes[0..0],
-    }
+    record_text::part(bytes, goal)
 }
 
 // Checks an expression's text against the order of an accepted record.

@@ -16,11 +16,11 @@ use Rattle.expression_grammar.proofs.Sound.{next}
 use Rattle.expression_grammar.proofs.Places.{byte-inside}
 use Rattle.graph.specs.Graph.{Words}
 use Rattle.graph.specs.Linking.{Linked}
-use Rattle.expression_parser.specs.declared.Node.{Node}
-use Rattle.expression_parser.specs.declared.ReadNode.{ReadNode}
-use Rattle.expression_parser.specs.declared.ReadNode.the-variants.{Read, Bad}
-use Rattle.expression_parser.specs.Nodes.{Comes, Answer, Primary}
-use Rattle.expression_parser.proofs.Runs.{takes, alike}
+use Rattle.expression_number.specs.declared.Node.{Node}
+use Rattle.expression_number.specs.declared.ReadNode.{ReadNode}
+use Rattle.expression_number.specs.declared.ReadNode.the-variants.{Read, Bad}
+use Rattle.expression_number.specs.Nodes.{Comes, Answer, Primary}
+use Rattle.expression_number.proofs.Runs.{takes, alike}
 use Rattle.expression_parser.specs.Readers.{within, NoAnd, NoMark, Group, Sequence}
 use Rattle.expression_parser.proofs.Tells.{joinKind, FrontTold, Links, links-sequence, links-group, clash, told-alone, told-push, told-close}
 

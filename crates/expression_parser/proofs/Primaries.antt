@@ -12,11 +12,11 @@ use Rattle.expression_grammar.specs.Reader.{Sign, digit, joiner, opener, closer
 use Rattle.expression_grammar.proofs.Signs.{Is, sign-is}
 use Rattle.expression_grammar.proofs.Sound.{next}
 use Rattle.expression_grammar.proofs.Places.{byte-inside}
-use Rattle.expression_parser.specs.declared.Node.{Node}
-use Rattle.expression_parser.specs.declared.ReadNode.{ReadNode}
-use Rattle.expression_parser.specs.declared.ReadNode.the-variants.{Read, Bad}
-use Rattle.expression_parser.specs.Nodes.{Comes, Refuses, Primary}
-use Rattle.expression_parser.proofs.Runs.{takes, stuck, run-at, run-end}
+use Rattle.expression_number.specs.declared.Node.{Node}
+use Rattle.expression_number.specs.declared.ReadNode.{ReadNode}
+use Rattle.expression_number.specs.declared.ReadNode.the-variants.{Read, Bad}
+use Rattle.expression_number.specs.Nodes.{Comes, Refuses, Primary}
+use Rattle.expression_number.proofs.Runs.{takes, stuck, run-at, run-end}
 use Rattle.expression_parser.specs.Readers.{NoMark, Sequence, Parsed}
 
 -- ---- a sequence in parentheses

@@ -14,9 +14,9 @@ use Rattle.graph.specs.Graph.{behind, Words}
 use Rattle.expression.specs.Expr.{Expr, join, Members, one, more, times, timesM, stands, standsM, before, beforeM}
 use Rattle.expression_grammar.specs.Reader.{Front, close, push}
 use Rattle.graph.specs.Linking.{Linked}
-use Rattle.expression_parser.specs.declared.Kind.{Kind}
-use Rattle.expression_parser.specs.declared.Kind.the-variants.{Group as Groups, Sequence as Sequences}
-use Rattle.expression_parser.specs.Nodes.{kindOf, bit, Told}
+use Rattle.expression_number.specs.declared.Kind.{Kind}
+use Rattle.expression_number.specs.declared.Kind.the-variants.{Group as Groups, Sequence as Sequences}
+use Rattle.expression_number.specs.Nodes.{kindOf, bit, Told}
 
 -- ---- Booleans
 bool-push : (r bx bm k s x y m : Bool) → (r || (bx || bm || (k && x && m) || (k && (s && (y || m))))) ≡ ((r || bx || (k && (s && y))) || (bm || (k && ((s || x) && m))))

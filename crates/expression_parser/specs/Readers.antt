@@ -8,9 +8,9 @@ use lib.ListN.{length}
 use Rattle.expression_grammar.specs.TextRules.{openLimit}
 use Rattle.expression.specs.Expr.{Expr}
 use Rattle.expression_grammar.specs.Reader.{Front, Level, Phase, State, state, reads, stops, read}
-use Rattle.expression_parser.specs.declared.ReadNode.{ReadNode}
-use Rattle.expression_parser.specs.declared.ReadNode.the-variants.{Read, Bad}
-use Rattle.expression_parser.specs.Nodes.{Told, Answer}
+use Rattle.expression_number.specs.declared.ReadNode.{ReadNode}
+use Rattle.expression_number.specs.declared.ReadNode.the-variants.{Read, Bad}
+use Rattle.expression_number.specs.Nodes.{Told, Answer}
 
 -- the state within a join of kind k of which the front f is read; g is the front of the groups where k is false
 abbrev pub within : Bool → ℕ → List Level → Front → Front → Phase → State

@@ -1,98 +1,26 @@
 // The readers of an expression's text: sequence, group and primary call each other in a cycle, bounded by the bytes left and the open parentheses.
 // Members are read by loops; the rows of the order, turned round, are lent down the cycle, so that a member is put behind all before it by its own rows alone.
 // Each reader answers with one node.
+use expression_number::Kind;
+use expression_number::Node;
+use expression_number::ReadNode;
 use graph::Graph;
 ghost use mathlib.Core.Path.{_≡_};
-ghost use Prim.Native.Nat.{_≤_};
 ghost use lib.Dec.{leb};
-ghost use lib.ListN.{getD};
 ghost use Rattle.sets.specs.Sets.{goalLimit};
 ghost use Rattle.expression_grammar.specs.TextRules.{openLimit};
 ghost use Rattle.graph.specs.Graph.{Words};
-ghost use Rattle.expression_parser.specs.Nodes.{maskOf, extraOf, found, Numbered, Primary};
+ghost use Rattle.expression_number.specs.Nodes.{Primary};
 ghost use Rattle.expression_parser.specs.Readers.{Sequence, Group, Parsed};
 
 // At most so many parentheses are open at a time.
 const DEEPEST: usize = 32;
-
-pub enum Kind {
-    Goal,
-    Group,
-    Sequence,
-}
-
-// What is read: the place behind it, its kind, the goals up to 32 that stand in it, and a word that is 0 only if they stand in it once and no
-// other number does. The place stands first, as a refusal's does: so both are kept in one register.
-pub struct Node {
-    pub end: usize,
-    pub kind: Kind,
-    pub set: u32,
-    pub extra: u32,
-}
-
-// A node, or the place with which no text of the grammar goes on.
-pub enum ReadNode {
-    Read(Node),
-    Bad(usize),
-}
 
 // No further parenthesis may be opened.
 pub fn full(depth: usize) -> bool
     ensures { λ r. ⌜ r ≡ leb openLimit depth ⌝ }
 {
     DEEPEST <= depth
-}
-
-// The set of one number: empty if it is above 32.
-fn mask_of(v: usize) -> u32
-    requires { ⌜ 1 ≤ v ⌝ }
-    ensures { λ r. ⌜ r ≡ maskOf goalLimit v ⌝ }
-{
-    if v <= Graph::MAX { Graph::single(v) } else { 0 }
-}
-
-// Not 0 if the number is above 32.
-fn extra_of(v: usize) -> u32
-    ensures { λ r. ⌜ r ≡ extraOf goalLimit v ⌝ }
-{
-    if v <= Graph::MAX { 0 } else { 1 }
-}
-
-fn goal(v: usize, end: usize) -> ReadNode
-    requires { ⌜ 1 ≤ v ⌝ }
-    ensures { λ r. ⌜ r ≡ found goalLimit v end ⌝ }
-{
-    let kind = Kind::Goal;
-    let set = mask_of(v);
-    let extra = extra_of(v);
-    ReadNode::Read(Node {
-        kind,
-        set,
-        extra,
-        end,
-    })
-}
-
-// A digit 1 to 9, then at most one further digit.
-pub fn number(text: &[u8], at: usize) -> ReadNode
-    requires { ⌜ (getD (now text) at 0 ≡ 40 → ⊥) ⌝ }
-    ensures { λ r. ⌜ Numbered goalLimit (now (text .entry)) at r ⌝ }
-{
-    let b = buffer::byte(text, at) as usize;
-    if b < 49 {
-        return ReadNode::Bad(at);
-    }
-    if 57 < b {
-        return ReadNode::Bad(at);
-    }
-    let d = buffer::byte(text, at + 1) as usize;
-    if d < 48 {
-        return goal(b - 48, at + 1);
-    }
-    if 57 < d {
-        return goal(b - 48, at + 1);
-    }
-    goal(10 * (b - 48) + (d - 48), at + 2)
 }
 
 // Groups joined by `,`: each is before all that come after it.
@@ -201,7 +129,7 @@ fn primary(text: &[u8], at: usize, depth: usize, rows: &mut [u32; Graph::MAX]) -
             }
         }
     } else {
-        number(text, at)
+        expression_number::number(text, at)
     }
 }
 

@@ -17,7 +17,7 @@ use Rattle.sets.proofs.Membership.{has-union, has-empty, has-single}
 use Rattle.expression_grammar.specs.Reader.{Sign, digit, joiner, opener, closer, other, sign}
 use Rattle.expression_grammar.specs.Numbers.{Found, found, fresh, grown, scan, numbers, among, fault}
 use Rattle.expression_grammar.proofs.Signs.{Is, sign-is, sign-digit}
-use Rattle.expression_parser.proofs.Runs.{drop-at}
+use Rattle.expression_number.proofs.Runs.{drop-at}
 use Rattle.expression_reading.specs.declared.Spot.the-variants.{At, Nowhere}
 use Rattle.expression_reading.specs.TextReading.{isDigit, foundAt, valueAt, spot, faultIn}
 

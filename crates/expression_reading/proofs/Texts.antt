@@ -25,10 +25,10 @@ use Rattle.record_rules.specs.Outcome.{refused}
 use Rattle.expression_grammar.specs.TextRules.{expressionLimit, openLimit, numbered, decided, readText}
 use Rattle.expression_grammar.proofs.Decides.{read-accepts}
 use Rattle.expression_grammar.proofs.Goals.{count, values, count-goals, text-goals, fault-good, missing-none, none-missing, misuse-none}
-use Rattle.expression_parser.specs.declared.Node.{Node}
-use Rattle.expression_parser.specs.declared.ReadNode.{ReadNode}
-use Rattle.expression_parser.specs.declared.ReadNode.the-variants.{Read as Done, Bad}
-use Rattle.expression_parser.specs.Nodes.{bit}
+use Rattle.expression_number.specs.declared.Node.{Node}
+use Rattle.expression_number.specs.declared.ReadNode.{ReadNode}
+use Rattle.expression_number.specs.declared.ReadNode.the-variants.{Read as Done, Bad}
+use Rattle.expression_number.specs.Nodes.{bit}
 use Rattle.expression_parser.specs.Readers.{Parsed}
 use Rattle.record_rules.specs.declared.Reading.the-variants.{Fine}
 use Rattle.expression_reading.specs.declared.TextReading.{TextReading}

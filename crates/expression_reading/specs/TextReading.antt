@@ -14,7 +14,7 @@ use Rattle.expression_grammar.specs.Reader.{sign, reads, read}
 use Rattle.expression_grammar.specs.Numbers.{Found, found, grown, numbers}
 use Rattle.expression_grammar.specs.Numbers
 use Rattle.record_rules.specs.Outcome.{Outcome, refused, accepted}
-use Rattle.expression_parser.specs.Nodes.{bit}
+use Rattle.expression_number.specs.Nodes.{bit}
 use Rattle.record_rules.specs.declared.Reading.the-variants.{Fine, Refused}
 use Rattle.expression_reading.specs.declared.TextReading.{TextReading}
 use Rattle.expression_reading.specs.declared.Spot.{Spot}

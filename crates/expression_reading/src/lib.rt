@@ -1,5 +1,5 @@
 // Reading an expression's text for n goals: refusals 15, 16 and 17 in this sequence, else its order as a graph.
-use expression_parser::ReadNode;
+use expression_number::ReadNode;
 use graph::Graph;
 use record_rules::Reading;
 use record_rules::Refusal;
@@ -122,7 +122,7 @@ pub fn read_text(text: &[u8], n: usize) -> TextReading
                     if sets::subset32(sets::below32(n), met) {
                         let outcome = Reading::Fine;
                         let mut graph = Graph::empty(n);
-                        graph::transpose(&mut prior, n);
+                        graph_transpose::transpose(&mut prior, n);
                         graph.rows = prior;
                         TextReading {
                             outcome,

@@ -58,7 +58,7 @@ fn put_rows(rows: &[u32; Graph::MAX], n: usize, space: &mut [u8]) -> FormAnswer
         ≡ bufferAfter (F.orThirteen (firstN (ahead (now (rows .entry))) n) (T.text (formAny (ahead (now (rows .entry))) n))) (now (space .entry)) ⌝ }
 {
     let mut prior = *rows;
-    graph::transpose(&mut prior, n);
+    graph_transpose::transpose(&mut prior, n);
     let found = form_first_n::first_n(rows, &prior, n);
     match found {
         FirstN::At(q) => FormAnswer::NoForm(q),

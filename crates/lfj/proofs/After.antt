@@ -23,7 +23,9 @@ use Rattle.order.specs.Order.{before}
 use Rattle.annotator.specs.declared.ReadAnswer.{ReadAnswer}
 use Rattle.annotator.specs.declared.ReadAnswer.the-variants.{Accepted, Refused}
 use Rattle.annotator.specs.Answers.{readOutcome, read, orderGraph}
-use Rattle.lfj.specs.Words.{refusalWord, word, after, afterWord, filled}
+use Rattle.lfj_words.specs.Words.{refusalWord, word, afterWord}
+use Rattle.clause_facts.specs.Facts.{filled}
+use Rattle.lfj.specs.Calls.{after}
 
 module _ (b : List ℕ) where
   -- an accepted record was read without a refusal, and gives its goal count

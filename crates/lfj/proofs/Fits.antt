@@ -43,12 +43,14 @@ use Rattle.form.proofs.Outcomes.{shown-fine, shown-refused}
 use Rattle.form.proofs.Theorems.{form-short, no-form}
 use Rattle.mel.specs.Annotation.{mel, melOutcome, melAnswer}
 use Rattle.mel.proofs.Short.{mel-short}
-use Rattle.annotator.specs.declared.Span.{Span}
-use Rattle.annotator.specs.Answers.{read, ofGoal, goalText, noSpan, check}
+use Rattle.record_text.specs.declared.Span.{Span}
+use Rattle.record_text.specs.Texts.{ofGoal, goalText, noSpan}
+use Rattle.annotator.specs.Answers.{read, check}
 use Rattle.annotator.proofs.Cases.{numbers}
-use Rattle.lfj.specs.Words.{after, variables, readWord, afterWord, formWord, melWord, textWord, verdictWord, checkWord}
+use Rattle.lfj_words.specs.Words.{readWord, afterWord, formWord, melWord, verdictWord, checkWord}
+use Rattle.lfj.specs.Calls.{after, variables, textWord}
 use Rattle.lfj.specs.Fits.{PlacesFit, ValuesFit, NumbersSay, ZeroAccepted}
-use Rattle.lfj.proofs.Encoding.{form-length, mel-length, number-says, form-number}
+use Rattle.lfj_words.proofs.Encoding.{form-length, mel-length, number-says, form-number}
 
 -- a place, a length
 abbrev Small : ℕ → Type 0

@@ -1,15 +1,13 @@
 -- The word of each case of an answer.
 use mathlib.Core.Path.{_≡_, sym, ap, ap₂, _∙_}
 use mathlib.Core.Option.{Option, none, some}
-use Prim.Native.Nat.{ℕ, _+_, _*_, _%_, _^_}
+use Prim.Native.Nat.{ℕ, _%_, _^_}
 use native.Mathlib.Omega.{arith}
 use Rattle.record_rules.specs.declared.Refusal.{Refusal}
 use Rattle.record_rules.specs.Outcome.{Outcome, refused, accepted}
 use Rattle.expression.specs.Search.{Four}
 use Rattle.expression_grammar.specs.Check as Check
-use Rattle.order_compare.specs.declared.Pair.{Pair}
 use Rattle.order_compare.specs.declared.Verdict as Verdicts
-use Rattle.order_compare.specs.declared.Verdict.the-variants.{Same, Differs}
 use Rattle.order_compare.specs.Verdicts.{verdictOf}
 use Rattle.form_first_n.specs.declared.Four.{Four as Goals}
 use Rattle.form_first_n.specs.FirstN.{four}
@@ -21,13 +19,15 @@ use Rattle.mel.specs.declared.MelAnswer.{MelAnswer}
 use Rattle.mel.specs.declared.MelAnswer.the-variants as T
 use Rattle.annotator.specs.declared.ReadAnswer.{ReadAnswer}
 use Rattle.annotator.specs.declared.ReadAnswer.the-variants.{Accepted, Refused}
-use Rattle.annotator.specs.declared.Span.{Span}
-use Rattle.annotator.specs.declared.TextAnswer.{TextAnswer}
-use Rattle.annotator.specs.declared.TextAnswer.the-variants.{At, NoText}
+use Rattle.record_text.specs.declared.Span.{Span}
+use Rattle.record_text.specs.declared.TextAnswer.{TextAnswer}
+use Rattle.record_text.specs.declared.TextAnswer.the-variants.{At, NoText}
 use Rattle.annotator.specs.declared.CheckAnswer.{CheckAnswer}
 use Rattle.annotator.specs.declared.CheckAnswer.the-variants.{Verdict, Rejected}
-use Rattle.annotator.specs.Answers.{readOutcome, textOutcome, checkOutcome}
-use Rattle.lfj.specs.Words.{refusalWord, word, readWord, formWord, melWord, textWord, verdictWord, checkWord}
+use Rattle.record_text.specs.Texts.{textOutcome}
+use Rattle.annotator.specs.Answers.{readOutcome, checkOutcome}
+use Rattle.lfj_words.specs.Words.{refusalWord, word, readWord, formWord, melWord, spanWord, verdictWord, checkWord}
+use Rattle.lfj.specs.Calls.{textWord}
 
 -- ---- A refusal's number and place make its word, and a value its own.
 module _ {s : ReadAnswer} {o : Outcome ℕ} (e : readOutcome s ≡ o) where
@@ -44,9 +44,9 @@ module _ {s : TextAnswer} {o : Outcome Span} (e : textOutcome s ≡ o) where
   unfolding textWord
   text-refused r f h = h ∙ ap textWord (ap textOutcome (sym f) ∙ e)
 
-  pub text-accepted : {w : ℕ} (a : Span) → s ≡ At a → w ≡ a .place % 2 ^ 32 → w + a .size % 2 ^ 16 * 2 ^ 32 ≡ textWord o
+  pub text-accepted : {w : ℕ} (a : Span) → s ≡ At a → w ≡ spanWord (a .place) (a .size) → w ≡ textWord o
   unfolding textWord
-  text-accepted a f h = ap (λ (x : ℕ). x + a .size % 2 ^ 16 * 2 ^ 32) h ∙ ap textWord (ap textOutcome (sym f) ∙ e)
+  text-accepted a f h = h ∙ ap textWord (ap textOutcome (sym f) ∙ e)
 
 module _ {s : CheckAnswer} {o : Outcome Check.Verdict} (e : checkOutcome s ≡ o) where
   pub check-refused : {w : ℕ} (r : Refusal) → s ≡ Rejected r → w ≡ refusalWord (r .number) (r .place) → w ≡ checkWord o
@@ -65,13 +65,6 @@ module _ {s : MelAnswer} {o : Outcome ℕ} (e : M.outcome s ≡ o) where
   pub mel-accepted : {w : ℕ} (n : ℕ) → s ≡ T.Done n → w ≡ n % 2 ^ 32 → w ≡ melWord o
   unfolding melWord
   mel-accepted n f h = h ∙ ap melWord (ap M.outcome (sym f) ∙ e)
-
--- ---- The verdict's word.
-pub same-word : {x : Verdicts.Verdict} → x ≡ Same → 0 ≡ verdictWord (verdictOf x)
-same-word f = ap (λ (y : Verdicts.Verdict). verdictWord (verdictOf y)) (sym f)
-
-pub differs-word : {x : Verdicts.Verdict} (p : Pair) → x ≡ Differs p → p .i % 2 ^ 8 + p .j % 2 ^ 8 * 2 ^ 8 ≡ verdictWord (verdictOf x)
-differs-word p f = ap (λ (y : Verdicts.Verdict). verdictWord (verdictOf y)) (sym f)
 
 -- ---- The form, and its length: the answer's word, whatever the case.
 abbrev pub answerWord : FormAnswer → ℕ

@@ -11,9 +11,11 @@ use Rattle.expression.specs.Search.{Four}
 use Rattle.expression_grammar.specs.Check.{same, differs}
 use Rattle.form.specs.Form.{formAnswer, formLength, shown}
 use Rattle.mel.specs.Annotation.{melAnswer}
-use Rattle.annotator.specs.declared.Span.{Span}
-use Rattle.annotator.specs.Answers.{read, goalText, noSpan, check}
-use Rattle.lfj.specs.Words.{after, variables, readWord, afterWord, formWord, melWord, textWord, checkWord}
+use Rattle.record_text.specs.declared.Span.{Span}
+use Rattle.record_text.specs.Texts.{goalText, noSpan}
+use Rattle.annotator.specs.Answers.{read, check}
+use Rattle.lfj_words.specs.Words.{readWord, afterWord, formWord, melWord, checkWord}
+use Rattle.lfj.specs.Calls.{after, variables, textWord}
 
 -- the place of every refusal
 pub record PlacesFit (b : List ℕ) : Type 0 where

@@ -22,7 +22,7 @@ use Rattle.mel_stages.proofs.Words.{occurs-out, occurs-in, shared-out}
 use Rattle.mel_stages.proofs.Masks.{has-once, has-twice}
 use Rattle.mel_stages.specs.Plain.{All}
 use Rattle.mel_stages.proofs.Stages.{all-append, by-stages, start-falls}
-use Rattle.mel_text.specs.CheckTexts.{pairsOf}
+use Rattle.mel_checks.specs.CheckTexts.{pairsOf}
 use Rattle.mel_text.specs.StageTexts.{groundSet, pairSet, checksText, stageText, stagesText, melText}
 use Rattle.mel_text.proofs.Stages.{checks-masks, stages-one, stages-more, stage-parts, stage-one}
 use Rattle.mel.proofs.PairCount.{others-out}

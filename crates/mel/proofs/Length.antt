@@ -15,8 +15,8 @@ use Rattle.mel_stages.specs.Masks.{given}
 use Rattle.mel_stages.specs.Plain.{All}
 use Rattle.sets.specs.Sets.{has, membersFrom}
 use Rattle.mel_stages.proofs.Stages.{stages-none}
-use Rattle.mel_text.specs.CheckTexts.{item}
-use Rattle.mel_text.proofs.Lists.{checks-step, checks-none, item-step, ground-length, indep-length}
+use Rattle.mel_checks.specs.CheckTexts.{item}
+use Rattle.mel_checks.proofs.Checks.{checks-step, checks-none, item-step, ground-length, indep-length}
 use Rattle.mel_text.specs.StageTexts.{stagesText, melText}
 
 -- the variables of a check have at most two digits

@@ -18,7 +18,7 @@ use Rattle.clause.specs.Clause.{goalSets, groundSets, pairRows}
 use Rattle.mel_stages.specs.Mel.{checks, start}
 use Rattle.mel_stages.specs.Masks.{given}
 use Rattle.mel_stages.proofs.Stages.{by-stages, start-falls, start-is-boundary}
-use Rattle.mel_text.specs.CheckTexts.{groundsText, pairsText, pairsOf}
+use Rattle.mel_checks.specs.CheckTexts.{groundsText, pairsText, pairsOf}
 use Rattle.mel_text.specs.StageTexts.{groundSet, pairSet, checksText, stageText, stagesText}
 use Rattle.mel_text.proofs.Stages.{checks-parts, stages-one, stages-more, stage-parts, stage-one}
 use Rattle.mel.specs.Annotation.{mel}

@@ -17,7 +17,7 @@ use Rattle.mel_stages.specs.Masks.{goalWith, partners}
 use Rattle.mel_stages.specs.Plain.{Twice}
 use Rattle.mel_stages.proofs.Words.{Some}
 use Rattle.mel_stages.proofs.Masks.{goal-with-in}
-use Rattle.mel_text.specs.CheckTexts.{pairsOf}
+use Rattle.mel_checks.specs.CheckTexts.{pairsOf}
 use Rattle.mel.proofs.Sizes.{size, size-in, size-out, size-top, size-split}
 use Rattle.mel.proofs.GoalSums.{sumFrom, sum-most, sum-mono, sum-one, distance, distance-zero, distance-suc}
 

@@ -1,3 +1,3 @@
-pub mod Lists
-pub mod Opened
+mod Goals
+mod Opened
 pub mod Stages

@@ -9,7 +9,7 @@ use lib.Seq.{sets}
 use Rattle.buffer.specs.Text.{Wrote, nonEmpty, only}
 use Rattle.buffer.proofs.Writing.{recast, over}
 use Rattle.mel_stages.specs.Mel.{Check, Ground, Indep, checkText, checksFrom}
-use Rattle.mel_text.proofs.Lists.{checks-step, checks-none}
+use Rattle.mel_checks.proofs.Checks.{checks-step, checks-none}
 
 -- the comma before the first
 comma : (c : Check) (l : List Check) → checksFrom true (c ∷ l) ≡ 44 ∷ checksFrom false (c ∷ l)

@@ -15,8 +15,8 @@ use Rattle.mel_stages.specs.Mel.{Stage, Check, Ground, Indep, checksFrom, arrow
 use Rattle.mel_stages.specs.Masks.{given, partners}
 use Rattle.mel_stages.proofs.Pairs.{those-members, those-none, grounds-mask, indep-masks}
 use Rattle.mel_stages.proofs.Stages.{stages-none, stages-last}
-use Rattle.mel_text.specs.CheckTexts.{groundsText, pairsOf, pairsText}
-use Rattle.mel_text.proofs.Lists.{checks-append}
+use Rattle.mel_checks.specs.CheckTexts.{groundsText, pairsOf, pairsText}
+use Rattle.mel_checks.proofs.Checks.{checks-append}
 use Rattle.mel_text.specs.StageTexts.{groundSet, pairSet, checksText, stageText, stagesText}
 use Rattle.mel_text.proofs.Opened.{opened, some-checks, comma-more}
 

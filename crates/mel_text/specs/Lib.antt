@@ -1,2 +1,1 @@
-pub mod CheckTexts
 pub mod StageTexts

@@ -191,6 +191,10 @@ module _ (b : List ℕ) where
         nothing-left = eqb-true _ _ (must-holds _ _ _ _ e);
       }
 
+  -- so is one of which a reader says so
+  pub read-well-formed : {s : Reading} → s ≡ reading b → s ≡ Fine → WellFormed b
+  read-well-formed e f = fine-well-formed (sym e ∙ f)
+
   pub well-formed-fine : WellFormed b → reading b ≡ Fine
   unfolding reading readingOf ending header counts
   well-formed-fine w =

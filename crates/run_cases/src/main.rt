@@ -1,12 +1,12 @@
 // Runs the cases of cases.txt and prints one answer a line, in the words of the conformance kit; `no case` if there is none.
 use annotator::CheckAnswer;
 use annotator::ReadAnswer;
-use annotator::TextAnswer;
 use form_first_n::Four;
 use graph::Graph;
 use order_compare::Verdict;
 use record_rules::Reading;
 use record_rules::Refusal;
+use record_text::TextAnswer;
 ghost use Prim.Native.Nat.{_≤_};
 ghost use lib.ListN.{length};
 

@@ -46,11 +46,12 @@ use Rattle.published.specs.Figure1.{figure1}
 use Rattle.published.specs.Linear.{udgExpr}
 use Rattle.published.proofs.Theorems.{figure-1-first-n, udg-text}
 use Rattle.mel_stages.specs.Mel.{checks}
-use Rattle.annotator.specs.declared.Span.{Span}
-use Rattle.annotator.specs.declared.TextAnswer.{TextAnswer}
-use Rattle.annotator.specs.Answers.{orderGraph, goalText, textOutcome, noSpan, textPart, check}
+use Rattle.record_text.specs.declared.Span.{Span}
+use Rattle.record_text.specs.declared.TextAnswer.{TextAnswer}
+use Rattle.record_text.specs.Texts.{goalText, textOutcome, noSpan, textPart}
+use Rattle.annotator.specs.Answers.{orderGraph, check}
 use Rattle.annotator.proofs.Answers.{order-fine}
-use Rattle.annotator.specs.Part.{PartAt}
+use Rattle.record_text.specs.Part.{PartAt}
 use Rattle.annotator.proofs.Checks.{check-fine}
 pub use Rattle.theorems.proofs.Check.{check-says, check-15, check-16, check-17, check-same, check-differs, answer-says}
 

@@ -1,5 +1,5 @@
 use mathlib.Core.Path.{_∙_}
-use Rattle.annotator.proofs.Answers.{well-formed}
+use Rattle.record.proofs.WellFormed.{read-well-formed}
 use Rattle.annotator.proofs.Checks.{check-refused, check-fine}
 use borrow.Author.Needs.{needs}
 use Rattle.annotator.proofs.check.Statement.{statement}
@@ -15,7 +15,7 @@ enum-told : tie.Need-enum-told
 enum-told c = search needs
 
 check-text-requires : tie.Need-check-text-requires
-check-text-requires c κs = let t = c in well-formed _ (t .before .before .read .ensures) (t .enum-told .given .1)
+check-text-requires c κs = let t = c in read-well-formed _ (t .before .before .read .ensures) (t .enum-told .given .1)
 
 returns : tie.Need-returns
 returns c = check-refused _ _ _ (c .before .before .before .read .ensures) (c .before .r .given .1)

@@ -1,7 +1,8 @@
 use Rattle.record.specs.WellFormed.{WellFormed}
 use Rattle.clause.proofs.Decoded.{clause-count, clause-few}
 use Rattle.order.proofs.Decoded.{clause-order}
-use Rattle.annotator.proofs.Answers.{well-formed, read-accepted, read-turned, order-fine, order-refused}
+use Rattle.record.proofs.WellFormed.{read-well-formed}
+use Rattle.annotator.proofs.Answers.{read-accepted, read-turned, order-fine, order-refused}
 use borrow.Author.Needs.{needs}
 use Rattle.annotator.proofs.order.Statement.{statement}
 use Rattle.annotator.proofs.order.Tie as tie
@@ -13,7 +14,7 @@ enum-told : tie.Need-enum-told
 enum-told c = search needs
 
 formed : (c : tie.After-enum-told) → WellFormed (c .before .before .before .before .args .bytes .now)
-formed c = well-formed _ (c .before .before .read .ensures) (c .enum-told .given .1)
+formed c = read-well-formed _ (c .before .before .read .ensures) (c .enum-told .given .1)
 
 decode-requires : tie.Need-decode-requires
 decode-requires c κs = formed c

@@ -20,7 +20,7 @@ use Rattle.expression_parser.proofs.sequence.Reads as sequence
 use Rattle.expression_parser.proofs.sequence.Kinds as sequence-kinds
 use Rattle.expression_parser.proofs.+group+primary+sequence.Lts-sequence as sequence-lts
 use Rattle.expression_parser.proofs.full.Reads as full-reads
-use Rattle.expression_parser.proofs.number.Reads as number-reads
+use Rattle.expression_number.proofs.number.Reads as number-reads
 use Rattle.buffer.proofs.byte.Reads as byte-reads
 use Rattle.graph.proofs.link.Reads as link-reads
 use Rattle.expression_parser.proofs.+group+primary+sequence.{statement}

@@ -1,6 +1,6 @@
 use native.Mathlib.Omega.{arith}
 use Rattle.record.proofs.WellFormed.{fine-well-formed}
-use Rattle.annotator.proofs.Answers.{tested, in-range}
+use Rattle.record_text.proofs.Texts.{tested, in-range}
 use Rattle.lfj.proofs.After.{was-accepted, after-refused, after-outside, after-row}
 use borrow.Author.Needs.{needs}
 use Rattle.lfj.proofs.lfj_after.Statement.{statement}

@@ -15,20 +15,14 @@ refused-requires c κs = search needs
 enum-known-s : tie.Need-enum-known-s
 enum-known-s c = search needs
 
-low-requires : tie.Need-low-requires
-low-requires c κs = search needs
-
-mul-result : tie.Need-mul-result
-mul-result c = search needs
-
-add-result : tie.Need-add-result
-add-result c = search needs
+span-requires : tie.Need-span-requires
+span-requires c κs = search needs
 
 returns : tie.Need-returns
 returns c = text-refused (c .before .before .before .before .find-text .ensures) _ (c .before .before .r .given .1) (c .refused .ensures)
 
 returns-2 : tie.Need-returns-2
-returns-2 c = text-accepted (c .before .before .before .before .find-text .ensures) _ (c .before .before .s .given .1) (c .low .ensures)
+returns-2 c = text-accepted (c .before .before .before .before .find-text .ensures) _ (c .before .before .s .given .1) (c .span .ensures)
 
 pub lfj-goal-text-spec : {M : Type 1} → statement M
 lfj-goal-text-spec =
@@ -38,8 +32,6 @@ lfj-goal-text-spec =
     enum-known-r
     refused-requires
     enum-known-s
-    low-requires
-    mul-result
-    add-result
+    span-requires
     returns
     returns-2)

@@ -1,6 +1,6 @@
 use native.Mathlib.Omega.{arith}
 use Rattle.buffer.proofs.Writing.{none, recast}
-use Rattle.mel_text.proofs.Lists.{arrow-on, arrow-off}
+use Rattle.mel_text.proofs.Goals.{arrow-on, arrow-off}
 use borrow.Author.Needs.{needs}
 use Rattle.mel_text.proofs.put_arrow.Statement.{statement}
 use Rattle.mel_text.proofs.put_arrow.Tie as tie

@@ -6,7 +6,7 @@ use native.Mathlib.Omega.{arith}
 use denote.Ref.{now}
 use lib.ListN.{length, length-append}
 use Rattle.buffer.proofs.Writing.{then, recast}
-use Rattle.mel_text.specs.CheckTexts as Y
+use Rattle.mel_checks.specs.CheckTexts as Y
 use Rattle.mel_text.specs.StageTexts as X
 use Rattle.mel_text.proofs.Stages.{checks-parts}
 use borrow.Author.Needs.{needs}

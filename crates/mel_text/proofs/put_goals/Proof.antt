@@ -8,7 +8,7 @@ use Rattle.buffer.specs.Text.{only}
 use Rattle.buffer.specs.Decimal.{decimal}
 use Rattle.buffer.proofs.Writing.{Left, start, onward, done, left-kept, then}
 use Rattle.mel_stages.specs.Mel as W
-use Rattle.mel_text.proofs.Lists.{goalsLeft, goals-whole, goals-step, goals-end}
+use Rattle.mel_text.proofs.Goals.{goalsLeft, goals-whole, goals-step, goals-end}
 use Rattle.mel_text.proofs.put_goals.Statement.{statement}
 use Rattle.mel_text.proofs.put_goals.Tie as tie
 
