@@ -6,9 +6,9 @@ use Rattle.record_rules.specs.Outcome.{Outcome, refused, accepted}
 use Rattle.expression.specs.Search.{Four}
 use Rattle.expression_grammar.specs.Check.{Verdict, same, differs}
 
--- `lfj_version`: 1.3.0 as major, minor and patch, two digits each. The minor is the number of change requests that have landed.
+-- `lfj_version`: 1.4.0 as major, minor and patch, two digits each. The minor is the number of change requests that have landed.
 abbrev pub version : ℕ
-version = 10300
+version = 10400
 
 -- The number at bits 56 to 63, the place at bits 0 to 31: no place has more bits, whatever the record's length, and no length (lfj/specs/Fits.antt).
 unfoldable pub refusalWord : ℕ → ℕ → ℕ
@@ -26,6 +26,10 @@ readWord o = word (λ n. n) o
 -- `lfj_after`: the set of the goals that the goal is before, goal g at bit g - 1
 unfoldable pub afterWord : Outcome ℕ → ℕ
 afterWord o = word (λ m. m) o
+
+-- `lfj_start`, `lfj_tick`: the set of the goals that have ended, goal g at bit g - 1
+unfoldable pub tickWord : Outcome ℕ → ℕ
+tickWord o = word (λ m. m) o
 
 -- `lfj_form`, `lfj_form_length`: the length; with 13 the goals a, b, c, d at bits 32, 38, 44 and 50, six bits each
 abbrev pub goalsWord : Option Four → ℕ

@@ -1,0 +1,5 @@
+pub mod Taking
+pub mod Working
+pub mod Ticks
+pub mod Bound
+pub mod Validity

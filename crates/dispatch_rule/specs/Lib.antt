@@ -1,0 +1,4 @@
+pub mod Rule
+pub mod Validity
+pub mod Run
+mod Examples

@@ -1,0 +1,177 @@
+-- The functions of a head's turn, by their definitions.
+use mathlib.Core.Path.{_≡_, refl, sym, ap, ap₂, _∙_}
+use mathlib.Core.List.{List}
+use mathlib.Core.Bool.{Bool, true, false, _&&_, cond}
+use mathlib.Core.Logic.{⊎-elim}
+use Prim.Native.Nat.{ℕ, zero, suc, _+_, _-_, _^_, _≤_, _<_}
+use native.Mathlib.Omega.{arith}
+use lib.ListN.{getD}
+use lib.Dec.{eqb, ltb, leb}
+use borrow.Author.Tests.{eq-eqb, ne-eqb, lt-ltb, le-ltb, lt-leb, le-leb}
+use Rattle.logic.proofs.Bools.{is-false}
+use Rattle.sets.specs.Sets.{goalLimit, has, union, without, single, first}
+use Rattle.sets.proofs.Membership.{first-member}
+use Rattle.sets.proofs.Members.{first-in}
+use Rattle.graph.specs.Graph.{hasGoal}
+use Rattle.graph.proofs.Goals.{goal-none, lowest-least}
+use Rattle.schedule.specs.Range.{lowest}
+use Rattle.schedule.proofs.Range.{lowest-of, lowest-none}
+use Rattle.dispatch_rule.specs.declared.Head.{Head}
+use Rattle.dispatch_rule.specs.Rule.{idle, worked}
+use Rattle.dispatch_steps.specs.declared.Board.{Board}
+use Rattle.dispatch_steps.specs.declared.Plan.{Plan}
+use Rattle.dispatch_steps.specs.declared.Stepped.{Stepped}
+use Rattle.dispatch_steps.specs.Steps.{looking, going, resting, idling, alone, ofGoal, isFine, lookOf, taking, finishing, goOf, restOf, stepOf, secondOf}
+
+-- ---- places that count from 0
+less-one : (i : ℕ) → suc i - 1 ≡ i
+less-one i = omega arith
+
+pub has-at : (m g : ℕ) → 1 ≤ g → has m (g - 1) ≡ hasGoal m g
+has-at m zero l = absurd (omega arith)
+has-at m (suc i) l = ap (has m) (less-one i)
+
+pub of-goal : (l : List ℕ) (g : ℕ) → 1 ≤ g → getD l (g - 1) 0 ≡ ofGoal l g
+of-goal l zero h = absurd (omega arith)
+of-goal l (suc i) h = ap (λ (x : ℕ). getD l x 0) (less-one i)
+
+-- ---- a goal alone
+pub alone-at : (g : ℕ) → 1 ≤ g → g ≤ goalLimit → single (g - 1) ≡ alone g
+alone-at zero l u = absurd (omega arith)
+alone-at (suc i) l u = ap single (less-one i) ∙ sym (ap (λ b. cond b (single i) 0) (lt-ltb i goalLimit (omega arith)))
+
+pub alone-none : (g : ℕ) → g ≡ 0 → 0 ≡ alone g
+alone-none g e = sym (ap alone e)
+
+pub alone-high : (g : ℕ) → goalLimit < g → 0 ≡ alone g
+alone-high zero l = refl
+alone-high (suc i) l = sym (ap (λ b. cond b (single i) 0) (le-ltb i goalLimit (omega arith)))
+
+-- ---- the lowest goal of a set
+pub lowest-empty : (m : ℕ) → m ≡ 0 → 0 ≡ lowest (hasGoal m) goalLimit
+lowest-empty m e = sym (lowest-none (hasGoal m) goalLimit (λ i a. ap (λ (x : ℕ). hasGoal x i) e ∙ goal-none i))
+
+pub lowest-first : (m : ℕ) → m < 2 ^ goalLimit → (m ≡ 0 → ⊥) → first goalLimit m + 1 ≡ lowest (hasGoal m) goalLimit
+lowest-first m l e =
+    let x = first goalLimit m in
+    let u = first-in goalLimit m l e in
+    let z : x + 1 ≡ suc x = omega arith in
+    z ∙ sym (lowest-of (hasGoal m) goalLimit (suc x) (omega arith, omega arith) (first-member goalLimit m u) (λ i a b. is-false (hasGoal m i) (λ h. omega (arith, lowest-least goalLimit m i h))))
+
+-- ---- a head's turn
+module _ (h : Head) (b : Board) (p : Plan) where
+  -- what is asked of a busy head
+  abbrev parts : Bool
+  parts = leb (h .goal) goalLimit && (hasGoal (b .free) (h .goal) && (leb 1 (h .left) && leb (h .left) (ofGoal (p .ticks) (h .goal))))
+
+  pub fine-idle : h .goal ≡ 0 → eqb (h .left) 0 ≡ isFine b p h
+  fine-idle e = sym (ap (λ x. cond x (eqb (h .left) 0) parts) (eq-eqb (h .goal) 0 e))
+
+  module _ (e : h .goal ≡ 0 → ⊥) where
+    busy-is : isFine b p h ≡ parts
+    busy-is = ap (λ x. cond x (eqb (h .left) 0) parts) (ne-eqb (h .goal) 0 e)
+
+    pub fine-wide : goalLimit < h .goal → false ≡ isFine b p h
+    fine-wide l = sym (busy-is ∙ simp (lt-leb (h .goal) goalLimit l))
+
+    module _ (u : h .goal ≤ goalLimit) where
+      pub fine-shut : hasGoal (b .free) (h .goal) ≡ false → false ≡ isFine b p h
+      fine-shut f = sym (busy-is ∙ simp (le-leb (h .goal) goalLimit u, f))
+
+      pub fine-none-left : hasGoal (b .free) (h .goal) ≡ true → h .left ≡ 0 → false ≡ isFine b p h
+      fine-none-left f z = sym (busy-is ∙ simp (le-leb (h .goal) goalLimit u, f, lt-leb 1 (h .left) (omega arith)))
+
+      pub fine-left : hasGoal (b .free) (h .goal) ≡ true → (h .left ≡ 0 → ⊥) → leb (h .left) (getD (p .ticks) (h .goal - 1) 0) ≡ isFine b p h
+      fine-left f z =
+          ap (leb (h .left)) (of-goal (p .ticks) (h .goal) (omega arith))
+          ∙ sym (busy-is ∙ ap₂ (λ x y. x && (y && (leb 1 (h .left) && leb (h .left) (ofGoal (p .ticks) (h .goal))))) (le-leb (h .goal) goalLimit u) f
+          ∙ ap (λ x. x && leb (h .left) (ofGoal (p .ticks) (h .goal))) (le-leb 1 (h .left) (omega arith)))
+
+  pub looked : (ok : Bool) (phase one free : ℕ) → ok ≡ isFine b p h → phase ≡ cond ok (b .phase) resting → one ≡ alone (h .goal) → free ≡ without (b .free) one
+      → _≡_ {A = Board} (record { phase = phase; free = free; done = b .done; number = b .number; place = b .place }) (lookOf h b p)
+  looked ok phase one free e q r s =
+      let q′ : phase ≡ cond (isFine b p h) (b .phase) resting = q ∙ ap (λ x. cond x (b .phase) resting) e in
+      let s′ : free ≡ without (b .free) (alone (h .goal)) = s ∙ ap (without (b .free)) r in
+      λ i. record { phase = q′ i; free = s′ i; done = b .done; number = b .number; place = b .place }
+
+  abbrev lowest-free : ℕ
+  lowest-free = lowest (hasGoal (b .free)) goalLimit
+
+  abbrev fresh : ℕ → Head
+  fresh g = record { goal = g; left = ofGoal (p .ticks) g }
+
+  pub taking-busy : (h .goal ≡ 0 → ⊥) → h ≡ taking h b p
+  taking-busy e = sym (ap (λ x. cond x (fresh lowest-free) h) (ne-eqb (h .goal) 0 e))
+
+  taking-idle : h .goal ≡ 0 → taking h b p ≡ fresh lowest-free
+  taking-idle e = ap (λ x. cond x (fresh lowest-free) h) (eq-eqb (h .goal) 0 e)
+
+  pub taking-none : (g : ℕ) → h .goal ≡ 0 → g ≡ lowest-free → g ≡ 0 → _≡_ {A = Head} (record { goal = 0; left = 0 }) (taking h b p)
+  taking-none g e f z = ap fresh (sym z ∙ f) ∙ sym (taking-idle e)
+
+  pub taking-new : (g : ℕ) → h .goal ≡ 0 → g ≡ lowest-free → (g ≡ 0 → ⊥) → _≡_ {A = Head} (record { goal = g; left = getD (p .ticks) (g - 1) 0 }) (taking h b p)
+  taking-new g e f z = ap (λ (x : ℕ). record { goal = g; left = x }) (of-goal (p .ticks) g (omega arith)) ∙ (ap fresh f ∙ sym (taking-idle e))
+
+  pub gone : (k : Head) (one free done : ℕ) (head : Head) → k ≡ taking h b p → one ≡ alone (k .goal) → free ≡ without (b .free) one → done ≡ finishing k (b .done) → head ≡ worked k
+      → _≡_ {A = Stepped} (record { head = head; board = record { phase = b .phase; free = free; done = done; number = b .number; place = b .place } }) (goOf h b p)
+  gone k one free done head e q r s t =
+      let r′ : free ≡ without (b .free) (alone (taking h b p .goal)) = r ∙ ap (without (b .free)) (q ∙ ap (λ (x : Head). alone (x .goal)) e) in
+      let s′ : done ≡ finishing (taking h b p) (b .done) = s ∙ ap (λ x. finishing x (b .done)) e in
+      let t′ : head ≡ worked (taking h b p) = t ∙ ap worked e in
+      λ i. record { head = t′ i; board = record { phase = b .phase; free = r′ i; done = s′ i; number = b .number; place = b .place } }
+
+  -- ---- which turn it is
+  abbrev looks : Stepped
+  looks = record { head = h; board = lookOf h b p }
+
+  abbrev rests : Stepped
+  rests = record { head = restOf h (b .phase); board = b }
+
+  pub step-goes : b .phase ≡ going → stepOf h b p ≡ goOf h b p
+  unfolding stepOf
+  step-goes e = ap (λ x. cond x (goOf h b p) (cond (eqb (b .phase) looking) looks rests)) (eq-eqb (b .phase) going e)
+
+  pub step-looks : b .phase ≡ looking → stepOf h b p ≡ looks
+  unfolding stepOf
+  step-looks e =
+      ap₂ (λ x y. cond x (goOf h b p) (cond y looks rests)) (ne-eqb (b .phase) going (λ z. omega arith)) (eq-eqb (b .phase) looking e)
+
+  pub step-rests : (b .phase ≡ going → ⊥) → (b .phase ≡ looking → ⊥) → stepOf h b p ≡ rests
+  unfolding stepOf
+  step-rests e f = ap₂ (λ x y. cond x (goOf h b p) (cond y looks rests)) (ne-eqb (b .phase) going e) (ne-eqb (b .phase) looking f)
+
+-- ---- one tick of work
+module _ (h : Head) where
+  pub work-ends : h .left ≤ 1 → _≡_ {A = Head} (record { goal = 0; left = 0 }) (worked h)
+  work-ends l = sym (ap (λ b. cond b idle (record { goal = h .goal; left = h .left - 1 })) (eq-eqb (h .left - 1) 0 (omega arith)))
+
+  pub work-goes : 1 < h .left → _≡_ {A = Head} (record { goal = h .goal; left = h .left - 1 }) (worked h)
+  work-goes l = sym (ap (λ b. cond b idle (record { goal = h .goal; left = h .left - 1 })) (ne-eqb (h .left - 1) 0 (λ e. omega arith)))
+
+  module _ (done one : ℕ) where
+    pub done-more : (r : ℕ) → h .left ≤ 1 → one ≡ alone (h .goal) → r ≡ union done one → r ≡ finishing h done
+    done-more r l e f =
+        f ∙ (ap (union done) e ∙ sym (ap (λ b. cond b (union done (alone (h .goal))) done) (eq-eqb (h .left - 1) 0 (omega arith))))
+
+    pub done-same : 1 < h .left → done ≡ finishing h done
+    done-same l = sym (ap (λ b. cond b (union done (alone (h .goal))) done) (ne-eqb (h .left - 1) 0 (λ e. omega arith)))
+
+-- ---- a head that is made idle, or rests
+pub rest-idle : (h : Head) (phase : ℕ) → phase ≡ idling → _≡_ {A = Head} (record { goal = 0; left = 0 }) (restOf h phase)
+rest-idle h phase e = sym (ap (λ x. cond x idle h) (eq-eqb phase idling e))
+
+pub rest-same : (h : Head) (phase : ℕ) → (phase ≡ idling → ⊥) → h ≡ restOf h phase
+rest-same h phase e = sym (ap (λ x. cond x idle h) (ne-eqb phase idling e))
+
+-- ---- between the two times
+module _ (b : Board) where
+  abbrev onward : Bool → Board
+  onward x = record { phase = cond x going (b .phase); free = b .free; done = b .done; number = b .number; place = b .place }
+
+  pub second-goes : b .phase ≡ looking → _≡_ {A = Board} (record { phase = going; free = b .free; done = b .done; number = b .number; place = b .place }) (secondOf b)
+  unfolding secondOf
+  second-goes e = sym (ap onward (eq-eqb (b .phase) looking e))
+
+  pub second-stays : (b .phase ≡ looking → ⊥) → b ≡ secondOf b
+  unfolding secondOf
+  second-stays e = sym (ap onward (ne-eqb (b .phase) looking e))

@@ -1,0 +1,110 @@
+-- One head's turn, by sets of goals as masks, goal g at bit g - 1; a row gone over once, and twice.
+use mathlib.Core.Bool.{Bool, _&&_, cond}
+use mathlib.Core.List.{List, [], _∷_}
+use Prim.Native.Nat.{ℕ, zero, suc, _-_}
+use lib.Dec.{eqb, ltb, leb}
+use lib.ListN.{getD}
+use Rattle.sets.specs.Sets.{goalLimit, union, without, single}
+use Rattle.graph.specs.Graph.{hasGoal}
+use Rattle.schedule.specs.Range.{lowest}
+use Rattle.dispatch_rule.specs.declared.Head.{Head}
+use Rattle.dispatch_rule.specs.Rule.{State, idle, worked}
+use Rattle.dispatch_steps.specs.declared.Board.{Board}
+use Rattle.dispatch_steps.specs.declared.Plan.{Plan}
+use Rattle.dispatch_steps.specs.declared.Opening.{Opening}
+use Rattle.dispatch_steps.specs.declared.Stepped.{Stepped}
+
+-- 02, request 4: "the 32-bit set of ended goals (goal g at bit g − 1)": the state that a row and such a set say
+abbrev pub stateOf : List Head → ℕ → State
+stateOf hs m = record { heads = hs; ended = hasGoal m }
+
+-- ---- the phases of a board
+abbrev pub looking : ℕ
+looking = 0
+
+abbrev pub going : ℕ
+going = 1
+
+abbrev pub resting : ℕ
+resting = 2
+
+abbrev pub idling : ℕ
+idling = 3
+
+-- goal g alone; no other number is in a set of goals
+abbrev pub alone : ℕ → ℕ
+alone zero = 0
+alone (suc i) = cond (ltb i goalLimit) (single i) 0
+
+-- what an array has for goal g, at place g - 1; 0 is no goal
+abbrev pub ofGoal : List ℕ → ℕ → ℕ
+ofGoal l zero = 0
+ofGoal l (suc i) = getD l i 0
+
+-- ---- a head is looked at
+abbrev pub isFine : Board → Plan → Head → Bool
+isFine b p h =
+    cond (eqb (h .goal) 0) (eqb (h .left) 0)
+    (leb (h .goal) goalLimit && (hasGoal (b .free) (h .goal) && (leb 1 (h .left) && leb (h .left) (ofGoal (p .ticks) (h .goal)))))
+
+abbrev pub lookOf : Head → Board → Plan → Board
+lookOf h b p =
+    record {
+      phase = cond (isFine b p h) (b .phase) resting;
+      free = without (b .free) (alone (h .goal));
+      done = b .done;
+      number = b .number;
+      place = b .place;
+    }
+
+-- ---- a head takes a goal, if it is idle, and works
+abbrev pub taking : Head → Board → Plan → Head
+taking h b p =
+    let g = lowest (hasGoal (b .free)) goalLimit in
+    cond (eqb (h .goal) 0) (record { goal = g; left = ofGoal (p .ticks) g }) h
+
+abbrev pub finishing : Head → ℕ → ℕ
+finishing h done = cond (eqb (h .left - 1) 0) (union done (alone (h .goal))) done
+
+abbrev pub goOf : Head → Board → Plan → Stepped
+goOf h b p =
+    record {
+      head = worked (taking h b p);
+      board =
+          record {
+            phase = b .phase;
+            free = without (b .free) (alone (taking h b p .goal));
+            done = finishing (taking h b p) (b .done);
+            number = b .number;
+            place = b .place;
+          };
+    }
+
+-- ---- a head rests, or is made idle
+abbrev pub restOf : Head → ℕ → Head
+restOf h phase = cond (eqb phase idling) idle h
+
+-- ---- a head's turn
+unfoldable pub stepOf : Head → Board → Plan → Stepped
+stepOf h b p =
+    cond (eqb (b .phase) going) (goOf h b p)
+    (cond (eqb (b .phase) looking) (record { head = h; board = lookOf h b p }) (record { head = restOf h (b .phase); board = b }))
+
+-- ---- the heads of a row in turn, lowest first: the row that they leave, and the board
+unfoldable pub sweepHeads : Plan → List Head → Board → List Head
+sweepHeads p [] b = []
+sweepHeads p (h ∷ hs) b = stepOf h b p .head ∷ sweepHeads p hs (stepOf h b p .board)
+
+unfoldable pub sweepBoard : Plan → List Head → Board → Board
+sweepBoard p [] b = b
+sweepBoard p (h ∷ hs) b = sweepBoard p hs (stepOf h b p .board)
+
+-- ---- a row gone over twice
+unfoldable pub secondOf : Board → Board
+secondOf b = record { phase = cond (eqb (b .phase) looking) going (b .phase); free = b .free; done = b .done; number = b .number; place = b .place }
+
+unfoldable pub turnHeads : Opening → List Head → List Head
+turnHeads o hs = sweepHeads (o .plan) (sweepHeads (o .plan) hs (o .board)) (secondOf (sweepBoard (o .plan) hs (o .board)))
+
+unfoldable pub turnBoard : Opening → List Head → Board
+turnBoard o hs = sweepBoard (o .plan) (sweepHeads (o .plan) hs (o .board)) (secondOf (sweepBoard (o .plan) hs (o .board)))

@@ -1,0 +1,3 @@
+pub mod Ticks
+pub mod Openings
+pub mod Runs

@@ -1,0 +1,134 @@
+// The dispatcher's two operations but for the row of heads (02, request 4): from the record to what a start and a tick begin with, and from what is left on the board to
+// the answer word. The crate `lfj_dispatch` goes over the row.
+use dispatch_steps::Board;
+use dispatch_steps::IDLE;
+use dispatch_steps::LOOK;
+use dispatch_steps::Opening;
+use dispatch_steps::Plan;
+use dispatch_steps::REST;
+use graph::Graph;
+use record_rules::Reading;
+use record_rules::Refusal;
+ghost use mathlib.Core.Path.{_≡_};
+ghost use mathlib.Core.Bool.{_&&_, cond};
+ghost use Rattle.record.specs.WellFormed.{WellFormed};
+ghost use Rattle.dispatch_steps.specs.Steps as S;
+ghost use Rattle.dispatcher.specs.Ticks as T;
+ghost use Rattle.dispatcher.specs.Openings as O;
+
+// The most heads of a row.
+pub const HEADS: usize = 8;
+
+// A row of so many heads is no reason to refuse.
+fn few(heads: usize) -> bool
+    ensures { λ r. ⌜ r ≡ T.few heads ⌝ }
+{
+    if heads == 0 {
+        return false;
+    }
+    heads <= HEADS
+}
+
+// The phase where nothing is refused, or the heads rest.
+fn unless_refused(ok: bool, phase: u32) -> u32
+    ensures { λ r. ⌜ r ≡ cond ok phase S.resting ⌝ }
+{
+    if ok {
+        return phase;
+    }
+    REST
+}
+
+// Of a refused record: nothing is done with the heads.
+fn shut(r: Refusal) -> Opening
+    ensures { λ o. ⌜ o ≡ O.shut (r .number) (r .place) ⌝ }
+{
+    let ticks = [0u32; Graph::MAX];
+    let board = Board {
+        phase: REST,
+        free: 0,
+        done: 0,
+        number: r.number,
+        place: r.place,
+    };
+    let plan = Plan { ticks };
+    Opening { board, plan }
+}
+
+// Of an accepted record, a start: the heads are made idle.
+fn start_open(heads: usize) -> Opening
+    ensures { λ o. ⌜ o ≡ O.startOpen heads ⌝ }
+{
+    let ticks = [0u32; Graph::MAX];
+    let ok = few(heads);
+    let phase = unless_refused(ok, IDLE);
+    let board = Board {
+        phase,
+        free: 0,
+        done: 0,
+        number: 20,
+        place: 0,
+    };
+    let plan = Plan { ticks };
+    Opening { board, plan }
+}
+
+// Of an accepted record, a tick: the heads are looked at. A goal is waiting if some goal that has not ended is before it. The goals that have ended are judged here.
+fn tick_open(bytes: &[u8], heads: usize, ended: u32) -> Opening
+    requires { ⌜ WellFormed (now bytes) ⌝ }
+    ensures { λ o. ⌜ o ≡ O.tickOpen (now (bytes .entry)) heads ended ⌝ }
+{
+    let c = clause::decode(bytes);
+    let order = order::order_of(c.n, &c.sets, &c.grounds, &c.listed);
+    let all = sets::below32(c.n);
+    let left = sets::without32(all, ended);
+    let waiting = graph::gathered(&order.rows, 0, left);
+    let ready = sets::without32(all, waiting);
+    let known = sets::subset32(ended, ready);
+    let ok = few(heads) & known;
+    let phase = unless_refused(ok, LOOK);
+    let free = sets::without32(left, waiting);
+    let board = Board {
+        phase,
+        free,
+        done: ended,
+        number: 20,
+        place: 0,
+    };
+    let ticks = c.ticks;
+    let plan = Plan { ticks };
+    Opening { board, plan }
+}
+
+// What a start of so many heads begins with.
+pub fn start_opening(bytes: &[u8], heads: usize) -> Opening
+    ensures { λ o. ⌜ o ≡ O.startOpening (now (bytes .entry)) heads ⌝ }
+{
+    match record::read(bytes) {
+        Reading::Refused(r) => shut(r),
+        Reading::Fine => start_open(heads),
+    }
+}
+
+// What a tick of so many heads begins with, where these goals have ended.
+pub fn tick_opening(bytes: &[u8], heads: usize, ended: u32) -> Opening
+    ensures { λ o. ⌜ o ≡ O.tickOpening (now (bytes .entry)) heads ended ⌝ }
+{
+    match record::read(bytes) {
+        Reading::Refused(r) => shut(r),
+        Reading::Fine => tick_open(bytes, heads, ended),
+    }
+}
+
+// The answer word: the refusal, or the goals that have ended.
+pub fn word_of(b: Board) -> u64
+    ensures { λ w. ⌜ w ≡ O.boardWord b ⌝ }
+{
+    let set = b.done as usize;
+    if b.phase == REST {
+        let number = b.number;
+        let place = b.place;
+        return lfj_words::refused(Refusal { number, place });
+    }
+    set as u64
+}

@@ -1,0 +1,4 @@
+pub mod Values
+pub mod SweepLaws
+pub mod Lending
+pub mod CallTurn

@@ -1,0 +1,137 @@
+-- Tests, sums and maxima over the goals 1 to n: what they say.
+use mathlib.Core.Path.{_≡_, refl, sym, ap, ap₂, _∙_, subst}
+use mathlib.Core.Bool.{Bool, true, false, _&&_, cond, false≢true, true≢false}
+use mathlib.Core.Logic.{_⊎_, inl, inr, ⊎-elim}
+use Prim.Native.Nat.{ℕ, zero, suc, _+_, _-_, _≤_, _<_, max}
+use native.Mathlib.Nat.{eq-or-lt-of-le}
+use native.Mathlib.Decide.{decLt}
+use native.Mathlib.Omega.{arith}
+use lib.Dec.{eqb}
+use borrow.Author.Tests.{eq-eqb, ne-eqb, eqb-true, eqb-false}
+use Rattle.schedule.specs.Range.{Goals, each, lowest, total, top}
+use Rattle.logic.specs.Quantifiers.{every}
+use Rattle.logic.proofs.Quantifiers.{every-out, every-in}
+use Rattle.logic.proofs.Bools.{test, by-test, and-true, and-false}
+
+-- ---- induction from below
+pub strong : (P : ℕ → Type 0) → ((m : ℕ) → ((i : ℕ) → i < m → P i) → P m) → (m : ℕ) → P m
+strong P f m = f m (below m)
+  where
+    below : (m : ℕ) (i : ℕ) → i < m → P i
+    below = elim [ zero ↦ λ i l. absurd (omega arith) | suc (m → ih) ↦ λ i l. ⊎-elim (λ (e : i ≡ m). subst P (sym e) (f m ih)) (λ (q : i < m). ih i q) (eq-or-lt-of-le {n = i} {m = m} (omega arith)) ]
+
+-- ---- each
+module _ (p : ℕ → Bool) where
+  pub each-at : (n i : ℕ) → each p n ≡ true → Goals n i → p i ≡ true
+  each-at n zero h g = absurd (omega (arith, g .0))
+  each-at n (suc i) h g = every-out n (λ i. p (suc i)) h i (g .1)
+
+  pub each-all : (n : ℕ) → ((i : ℕ) → Goals n i → p i ≡ true) → each p n ≡ true
+  each-all n f = every-in n (λ i. p (suc i)) (λ i l. f (suc i) (omega arith, l))
+
+  pub each-not : (n : ℕ) → each p n ≡ false → (i : ℕ) × Goals n i × (p i ≡ false)
+  unfolding every
+  each-not zero h = absurd (true≢false h)
+  each-not (suc m) h =
+      ⊎-elim (λ u. let r = each-not m u in (r .0, (r .1 .0, omega (arith, r .1 .1)), r .2)) (λ u. (suc m, omega arith, u))
+      (and-false (each p m) (p (suc m)) h)
+
+  -- ---- lowest: g is 0 and none of 1 to n passes, or g is the lowest that does
+  pub record Lowest (n g : ℕ) : Type 0 where
+    pub goals : Goals n g
+    pub passes : p g ≡ true
+    pub none-below : (i : ℕ) → 1 ≤ i → i < g → p i ≡ false
+
+  pub record Nothing (n g : ℕ) : Type 0 where
+    pub zero-is : g ≡ 0
+    pub none : (i : ℕ) → Goals n i → p i ≡ false
+
+  pub lowest-is : (n : ℕ) → Lowest n (lowest p n) ⊎ Nothing n (lowest p n)
+  unfolding lowest
+  lowest-is zero = inr (record { zero-is = refl; none = λ i g. absurd (omega arith) })
+  lowest-is (suc m) = go (lowest p m) (lowest-is m)
+    where
+      go : (r : ℕ) → Lowest m r ⊎ Nothing m r → Lowest (suc m) (cond (eqb r 0) (cond (p (suc m)) (suc m) 0) r) ⊎ Nothing (suc m) (cond (eqb r 0) (cond (p (suc m)) (suc m) 0) r)
+      go r (inl l) =
+          by-test (λ z. Lowest (suc m) z ⊎ Nothing (suc m) z) (eqb r 0) (λ e. let z = eqb-true r 0 e in absurd (omega (arith, l .goals .0)))
+          (λ e. inl (record { goals = (l .goals .0, omega (arith, l .goals .1)); passes = l .passes; none-below = l .none-below }))
+      go r (inr l) =
+          by-test (λ z. Lowest (suc m) z ⊎ Nothing (suc m) z) (eqb r 0)
+          (λ e.
+          by-test (λ z. Lowest (suc m) z ⊎ Nothing (suc m) z) (p (suc m))
+          (λ u. inl (record { goals = omega arith; passes = u; none-below = λ i a b. l .none i (a, omega arith) }))
+          (λ u.
+          inr
+          (record {
+            zero-is = refl;
+            none = λ i g. ⊎-elim (λ (q : i ≡ suc m). ap p q ∙ u) (λ (q : i < suc m). l .none i (g .0, omega arith)) (eq-or-lt-of-le (g .1));
+          })))
+          (λ e. absurd (eqb-false r 0 e (l .zero-is)))
+
+  pub lowest-le : (n : ℕ) → lowest p n ≤ n
+  lowest-le n = ⊎-elim (λ l. l .goals .1) (λ l. omega (arith, l .zero-is)) (lowest-is n)
+
+  -- nothing else is the lowest
+  pub lowest-of : (n g : ℕ) → Goals n g → p g ≡ true → ((i : ℕ) → 1 ≤ i → i < g → p i ≡ false) → lowest p n ≡ g
+  lowest-of n g a e f =
+      ⊎-elim
+      (λ l.
+      pick (decLt (lowest p n) g) (λ q. true≢false (sym (l .passes) ∙ f (lowest p n) (l .goals .0) q))
+      (decLt g (lowest p n)) (λ q. true≢false (sym e ∙ l .none-below g (a .0) q)))
+      (λ l. absurd (true≢false (sym e ∙ l .none g a))) (lowest-is n)
+    where
+      pick : Dec (lowest p n < g) → (lowest p n < g → ⊥) → Dec (g < lowest p n) → (g < lowest p n → ⊥) → lowest p n ≡ g
+      pick (yes l) no-l d no-r = absurd (no-l l)
+      pick (no l) no-l (yes r) no-r = absurd (no-r r)
+      pick (no l) no-l (no r) no-r = omega arith
+
+  pub lowest-none : (n : ℕ) → ((i : ℕ) → Goals n i → p i ≡ false) → lowest p n ≡ 0
+  lowest-none n f = ⊎-elim (λ l. absurd (true≢false (sym (l .passes) ∙ f (lowest p n) (l .goals)))) (λ l. l .zero-is) (lowest-is n)
+
+-- ---- sums
+pub total-add : (f g : ℕ → ℕ) (n : ℕ) → total (λ i. f i + g i) n ≡ total f n + total g n
+total-add f g zero = refl
+total-add f g (suc m) = omega (arith, total-add f g m)
+
+pub total-eq : (f g : ℕ → ℕ) (n : ℕ) → ((i : ℕ) → Goals n i → f i ≡ g i) → total f n ≡ total g n
+total-eq f g zero h = refl
+total-eq f g (suc m) h = omega (arith, total-eq f g m (λ i a. h i (a .0, omega arith)), h (suc m) (omega arith))
+
+pub total-none : (f : ℕ → ℕ) (n : ℕ) → ((i : ℕ) → Goals n i → f i ≡ 0) → total f n ≡ 0
+total-none f zero h = refl
+total-none f (suc m) h = omega (arith, total-none f m (λ i a. h i (a .0, omega arith)), h (suc m) (omega arith))
+
+-- the number of places of 1 to n at which g stands
+pub same : (i g : ℕ) → i ≡ g → _≡_ {A = ℕ} (cond (eqb i g) 1 0) 1
+same i g e = ap (λ b. cond b 1 0) (eq-eqb i g e)
+
+pub other : (i g : ℕ) → (i ≡ g → ⊥) → _≡_ {A = ℕ} (cond (eqb i g) 1 0) 0
+other i g e = ap (λ b. cond b 1 0) (ne-eqb i g e)
+
+pub total-one : (n g : ℕ) → Goals n g → total (λ i. cond (eqb i g) 1 0) n ≡ 1
+total-one zero g h = absurd (omega arith)
+total-one (suc m) g h =
+    ⊎-elim
+    (λ (e : g ≡ suc m). omega (arith, total-none (λ i. cond (eqb i g) 1 0) m (λ i a. other i g (omega arith)), same (suc m) g (omega arith)))
+    (λ (q : g < suc m). omega (arith, total-one m g (h .0, omega arith), other (suc m) g (omega arith)))
+    (eq-or-lt-of-le (h .1))
+
+-- ---- maxima
+module _ (f : ℕ → ℕ) where
+  pub top-le : (n b : ℕ) → ((i : ℕ) → Goals n i → f i ≤ b) → top f n ≤ b
+  top-le zero b h = omega arith
+  top-le (suc m) b h = omega (arith, top-le m b (λ i a. h i (a .0, omega arith)), h (suc m) (omega arith))
+
+  pub le-top : (n i : ℕ) → Goals n i → f i ≤ top f n
+  le-top zero i g = absurd (omega arith)
+  le-top (suc m) i g = ⊎-elim (λ (e : i ≡ suc m). omega (arith, ap f e)) (λ (q : i < suc m). omega (arith, le-top m i (g .0, omega arith))) (eq-or-lt-of-le (g .1))
+
+pub top-mono : (f g : ℕ → ℕ) (n : ℕ) → ((i : ℕ) → Goals n i → f i ≤ g i) → top f n ≤ top g n
+top-mono f g n h = top-le f n (top g n) (λ i a. omega (arith, h i a, le-top g n i a))
+
+-- Each value is 0 or falls, and one falls: the maximum falls.
+pub top-falls : (f g : ℕ → ℕ) (n i : ℕ) → Goals n i → f i < g i → ((j : ℕ) → Goals n j → (f j ≡ 0) ⊎ (f j < g j)) → top f n < top g n
+top-falls f g n i a l h =
+    let b = le-top g n i a in
+    let z : top f n ≤ top g n - 1 = top-le f n (top g n - 1) (λ j c. ⊎-elim (λ e. omega arith) (λ q. omega (arith, le-top g n j c)) (h j c)) in
+    omega arith
