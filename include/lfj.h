@@ -9,16 +9,19 @@
  *
  * A record has version 1, or version 2 with a ground set and ticks at each goal.
  *
- * Link with liblfj.a, which `rt staticlib lfj` writes to target/staticlib.
+ * Link with liblfj.a, which `rt staticlib lfj` writes to target/staticlib. A program that
+ * calls the dispatcher, lfj_start or lfj_tick, is linked with liblfj_dispatch.a too, from
+ * `rt staticlib lfj_dispatch`.
  *
  * WHAT A CALLER OWES. The proof takes these for granted, and nothing tests them:
  *   - No pointer is null, save one beside a length of 0: that one is not looked at,
  *     by the layer further below. Arrays and `head` are never null.
  *   - The bytes of `record` (n of them) and of `text` (m) can be read, those of
- *     `out` (room), of an array and of `head` read and written, and nothing else
- *     writes to any of them during the call.
- *   - What is written to (`out`, an array, `head`) overlaps nothing else that is
- *     lent. `record` and `text` may overlap each other.
+ *     `out` (room), of an array, of `head` and of the row `heads` (k heads) read and
+ *     written, and nothing else writes to any of them during the call.
+ *   - Arrays, `head` and `heads` are aligned as C aligns their types, `heads` to 4.
+ *   - What is written to (`out`, an array, `head`, `heads`) overlaps nothing else that
+ *     is lent. `record` and `text` may overlap each other.
  *   - A length is at most the largest size of an object, PTRDIFF_MAX.
  * Another language calls the library itself, past that layer: there no pointer is
  * null, whatever the length.
@@ -45,8 +48,8 @@ extern "C" {
 #endif
 
 /* This header's version: major * 10000 + minor * 100 + patch, and as text. */
-#define LFJ_VERSION 10300
-#define LFJ_VERSION_TEXT "1.3.0"
+#define LFJ_VERSION 10400
+#define LFJ_VERSION_TEXT "1.4.0"
 
 /* No record that is accepted is longer, in bytes. */
 #define LFJ_RECORD_MAX 1910
@@ -63,6 +66,8 @@ extern "C" {
 #define LFJ_MEL_MAX 197162
 /* The longest text that the check reads. */
 #define LFJ_TEXT_MAX 512
+/* The most heads of a dispatcher's row; the least is 1. */
+#define LFJ_HEADS_MAX 8
 
 /* The numbers of refusals. lfj_words() says what each means and what its place is. */
 enum lfj_number {
@@ -85,7 +90,8 @@ enum lfj_number {
     LFJ_BAD_GRAMMAR = 16,
     LFJ_BAD_GOAL_USE = 17,
     LFJ_BAD_GROUND_SET = 18,
-    LFJ_BAD_TICKS = 19
+    LFJ_BAD_TICKS = 19,
+    LFJ_BAD_HEADS = 20
 };
 
 /* ---- The functions of the library ---- */
@@ -176,6 +182,70 @@ uint64_t lfj_ticks(const uint8_t *record, size_t n, uint32_t ticks[LFJ_GOAL_MAX]
  */
 uint64_t lfj_listed(const uint8_t *record, size_t n, uint64_t rows[LFJ_VARIABLE_MAX]);
 
+/* ---- The dispatcher: a library of its own, liblfj_dispatch.a ----
+ *
+ * It runs a clause on 1 to 8 heads, one tick a call. The caller lends the row of heads,
+ * passes the set of ended goals and gets it back; the library keeps neither. In a tick
+ * every idle head, lowest first, takes the lowest goal, neither ended nor on a head, whose
+ * predecessors have all ended; then every busy head works one tick, and at 0 left its goal
+ * has ended and the head is idle. Clauses without a form are dispatched too.
+ *
+ * A run on three heads until all goals have ended:
+ *
+ *     struct lfj_head heads[3];
+ *     uint32_t ended = 0;
+ *     unsigned ticks = 0;
+ *     unsigned goals = lfj_goal_count(lfj_read(record, n));
+ *     uint64_t answer = lfj_start(record, n, heads, 3);
+ *     while (lfj_refusal(answer) == LFJ_ACCEPTED) {
+ *         ended = lfj_ended(answer);
+ *         if (ended == lfj_all_goals(goals))
+ *             break;
+ *         answer = lfj_tick(record, n, heads, 3, ended);
+ *         ticks++;
+ *     }
+ *
+ * A refused call gives back no set, so its answer is not stored over the caller's.
+ */
+
+/*
+ * A head: its goal, from 1, and the ticks that the goal still has. An idle head has zeros.
+ * 8 bytes, the goal at 0 and the ticks left at 4, alignment 4.
+ */
+struct lfj_head {
+    uint32_t goal;
+    uint32_t left;
+};
+
+/* The layout that the library has: an array of negative length does not compile. */
+struct lfj_head_alignment {
+    char one;
+    struct lfj_head head;
+};
+typedef char lfj_head_layout[sizeof(struct lfj_head) == 8 && offsetof(struct lfj_head, goal) == 0
+                                     && offsetof(struct lfj_head, left) == 4
+                                     && offsetof(struct lfj_head_alignment, head) == 4
+                                 ? 1
+                                 : -1];
+
+/*
+ * A start: makes all k heads idle, whatever they held. Accepted: 0, no goal has ended.
+ * Refused by 20 if k is 0 or above LFJ_HEADS_MAX.
+ */
+uint64_t lfj_start(const uint8_t *record, size_t n, struct lfj_head *heads, size_t k);
+
+/*
+ * One tick, given the row and the set of ended goals that the start or tick before left.
+ * Accepted: the set of ended goals after it. Once all goals have ended a tick changes
+ * nothing.
+ * Refused by 20 if k is 0 or above LFJ_HEADS_MAX; if a head's goal is above the goal count,
+ * on two heads or ended; if the ticks left are 0 or above the goal's on a busy head, or not
+ * 0 on an idle one; if an ended goal is above the goal count; or if a busy or ended goal has
+ * a predecessor that has not ended.
+ */
+uint64_t lfj_tick(const uint8_t *record, size_t n, struct lfj_head *heads, size_t k,
+                  uint32_t ended);
+
 /* ---- Taking an answer apart ---- */
 
 /* Of any answer: the refusal's number, 0 if the call was accepted. */
@@ -215,6 +285,12 @@ static inline unsigned lfj_variable_count(uint64_t answer)
 static inline uint32_t lfj_goal_set(uint64_t answer)
 {
     return (uint32_t)(answer & UINT64_C(0xffffffff));
+}
+
+/* Accepted by lfj_start or lfj_tick: the set of ended goals. A refusal has none. */
+static inline uint32_t lfj_ended(uint64_t answer)
+{
+    return lfj_goal_set(answer);
 }
 
 /* Accepted by lfj_form, lfj_form_length or lfj_mel: the length. */
@@ -259,6 +335,18 @@ static inline unsigned lfj_differs_j(uint64_t answer)
 static inline int lfj_has_goal(uint32_t set, unsigned goal)
 {
     return goal >= 1 && goal <= LFJ_GOAL_MAX && ((set >> (goal - 1)) & 1) != 0;
+}
+
+/* The set of goals 1 to `goals`: what has ended at the end of a run. */
+static inline uint32_t lfj_all_goals(unsigned goals)
+{
+    return goals < LFJ_GOAL_MAX ? (UINT32_C(1) << goals) - 1 : UINT32_MAX;
+}
+
+/* Is the head idle? */
+static inline int lfj_is_idle(struct lfj_head head)
+{
+    return head.goal == 0;
 }
 
 /* Is `variable`, from 0, in a set of variables? */
@@ -319,6 +407,10 @@ static inline const char *lfj_words(unsigned number)
         return "a goal's ground set lacks a variable of the one before, or has one that is "
                "in neither the head nor an earlier goal (place: the set's start)";
     case LFJ_BAD_TICKS: return "a goal's ticks are not 1 to 60000 (place: their first byte)";
+    case LFJ_BAD_HEADS:
+        return "the row has not 1 to 8 heads; or at a tick a head's goal is none of the clause, "
+               "on two heads or ended, its ticks left are wrong, an ended goal is none of the "
+               "clause, or a busy or ended goal has a predecessor that has not ended";
     default: return "a refusal that this header does not know";
     }
 }
@@ -396,6 +488,13 @@ static inline uint8_t *lfj_lent_room(uint8_t *out, size_t room)
     return room != 0 ? out : &none;
 }
 
+/* The same of a row of heads. */
+static inline struct lfj_head *lfj_lent_heads(struct lfj_head *heads, size_t k)
+{
+    static struct lfj_head none = {0, 0};
+    return k != 0 ? heads : &none;
+}
+
 static inline uint64_t lfj_nullable_read(const uint8_t *record, size_t n)
 {
     return lfj_read(lfj_lent(record, n), n);
@@ -469,6 +568,18 @@ static inline uint64_t lfj_nullable_listed(const uint8_t *record, size_t n,
     return lfj_listed(lfj_lent(record, n), n, rows);
 }
 
+static inline uint64_t lfj_nullable_start(const uint8_t *record, size_t n,
+                                          struct lfj_head *heads, size_t k)
+{
+    return lfj_start(lfj_lent(record, n), n, lfj_lent_heads(heads, k), k);
+}
+
+static inline uint64_t lfj_nullable_tick(const uint8_t *record, size_t n,
+                                         struct lfj_head *heads, size_t k, uint32_t ended)
+{
+    return lfj_tick(lfj_lent(record, n), n, lfj_lent_heads(heads, k), k, ended);
+}
+
 #define lfj_read lfj_nullable_read
 #define lfj_after lfj_nullable_after
 #define lfj_order lfj_nullable_order
@@ -482,6 +593,8 @@ static inline uint64_t lfj_nullable_listed(const uint8_t *record, size_t n,
 #define lfj_ground_sets lfj_nullable_ground_sets
 #define lfj_ticks lfj_nullable_ticks
 #define lfj_listed lfj_nullable_listed
+#define lfj_start lfj_nullable_start
+#define lfj_tick lfj_nullable_tick
 
 #ifdef __cplusplus
 }

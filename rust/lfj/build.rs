@@ -1,8 +1,12 @@
-//! Links the static library `liblfj.a`. Its folder: the environment variable LFJ_LIB_DIR, an
-//! absolute path, else `target/staticlib` of the repository, where `rt staticlib lfj` puts it.
+//! Links the static libraries: `liblfj.a`, and the dispatcher's `liblfj_dispatch.a`. Their folder:
+//! the environment variable LFJ_LIB_DIR, an absolute path, else `target/staticlib` of the
+//! repository, where `rt staticlib lfj` and `rt staticlib lfj_dispatch` put them.
 
 use std::env;
 use std::path::PathBuf;
+
+/// The libraries' names; each has a crate of the same name.
+const LIBRARIES: [&str; 2] = ["lfj_dispatch", "lfj"];
 
 /// Ends the build with these lines.
 fn fail(lines: &[String]) -> ! {
@@ -12,7 +16,7 @@ fn fail(lines: &[String]) -> ! {
     std::process::exit(1);
 }
 
-/// The folder of the library.
+/// The folder of the libraries.
 fn folder() -> PathBuf {
     let Some(folder) = env::var_os("LFJ_LIB_DIR").map(PathBuf::from) else {
         let here = env::var_os("CARGO_MANIFEST_DIR").expect("cargo sets it");
@@ -32,16 +36,19 @@ fn folder() -> PathBuf {
 fn main() {
     println!("cargo:rerun-if-env-changed=LFJ_LIB_DIR");
     let folder = folder();
-    let library = folder.join("liblfj.a");
-    println!("cargo:rerun-if-changed={}", library.display());
-    if !library.is_file() {
-        fail(&[
-            format!("{} is not there.", library.display()),
-            "Make it with `rt staticlib lfj` in the repository's root, or let the".to_string(),
-            "environment variable LFJ_LIB_DIR name the folder that has liblfj.a.".to_string(),
-        ]);
+    for name in LIBRARIES {
+        let library = folder.join(format!("lib{name}.a"));
+        println!("cargo:rerun-if-changed={}", library.display());
+        println!("cargo:rustc-link-lib=static:-bundle={name}");
+        if !library.is_file() {
+            fail(&[
+                format!("{} is not there.", library.display()),
+                format!("Make it with `rt staticlib {name}` in the repository's root, or let the"),
+                "environment variable LFJ_LIB_DIR name the folder that has liblfj.a and".into(),
+                "liblfj_dispatch.a.".to_string(),
+            ]);
+        }
     }
     let folder = folder.canonicalize().expect("the folder has just been read");
     println!("cargo:rustc-link-search=native={}", folder.display());
-    println!("cargo:rustc-link-lib=static:-bundle=lfj");
 }

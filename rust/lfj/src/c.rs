@@ -1,4 +1,4 @@
-//! The functions of the static library, as `include/lfj.h` declares them.
+//! The functions of the static libraries, as `include/lfj.h` declares them.
 //!
 //! Each answers one word: bits 56 to 63 the refusal's number, 0 if accepted; bits 0 to 31
 //! the refusal's place; with number 13 its four goals at bits 32, 38, 44 and 50, six bits
@@ -8,7 +8,10 @@
 //!
 //! Of each function: a pointer is not null, also where the length behind it is 0, and that
 //! many bytes may be read there; at `out` they may be written, and no other argument
-//! overlaps them. The same holds of the elements of `rows`, `head`, `sets` and `ticks`.
+//! overlaps them. The same holds of the elements of `rows`, `head`, `sets`, `ticks` and `heads`,
+//! which are aligned as their types.
+
+use crate::dispatch::Head;
 
 unsafe extern "C" {
     /// The goal count.
@@ -37,6 +40,10 @@ unsafe extern "C" {
     pub fn lfj_ticks(record: *const u8, n: usize, ticks: *mut [u32; 32]) -> u64;
     /// The variable count. Place x: the variables listed as independent of variable x.
     pub fn lfj_listed(record: *const u8, n: usize, rows: *mut [u64; 64]) -> u64;
+    /// 0: no goal has ended. All `k` heads are made idle.
+    pub fn lfj_start(record: *const u8, n: usize, heads: *mut Head, k: usize) -> u64;
+    /// The set of ended goals after the tick.
+    pub fn lfj_tick(record: *const u8, n: usize, heads: *mut Head, k: usize, ended: u32) -> u64;
     /// The library's version, no answer word: major * 10000 + minor * 100 + patch.
     pub fn lfj_version() -> u32;
 }

@@ -39,9 +39,12 @@
 //!
 //! A record of version 2 says for each goal which variables are ground just left of it, and its
 //! ticks. Two goals are judged by the ground set at the earlier one.
+//!
+//! [`dispatch`] runs a clause on several heads, tick by tick.
 
 pub mod c;
 mod clause;
+pub mod dispatch;
 mod expr;
 mod facts;
 mod refusal;
@@ -168,7 +171,7 @@ pub fn facts(record: &[u8]) -> Result<Facts, Refusal> {
     Ok(facts)
 }
 
-/// The version of the library that is linked: 10300 for 1.3.0.
+/// The version of the library that is linked: 10400 for 1.4.0.
 pub fn version() -> u32 {
     // SAFETY: it takes nothing and only answers.
     unsafe { c::lfj_version() }

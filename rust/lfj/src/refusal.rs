@@ -45,12 +45,14 @@ pub enum Kind {
     BadGroundSet = 18,
     /// A goal's ticks are not 1 to 60000.
     BadTicks = 19,
+    /// The row of heads or the set of ended goals that the dispatcher is given.
+    BadHeads = 20,
     /// A number that this crate does not know: the library is newer.
     Unknown = 255,
 }
 
 /// All kinds with a number of the papers, in its order.
-const KINDS: [Kind; 19] = [
+const KINDS: [Kind; 20] = [
     Kind::ShortRecord,
     Kind::BadMark,
     Kind::BadVersion,
@@ -70,6 +72,7 @@ const KINDS: [Kind; 19] = [
     Kind::BadGoalUse,
     Kind::BadGroundSet,
     Kind::BadTicks,
+    Kind::BadHeads,
 ];
 
 impl Kind {
@@ -92,7 +95,7 @@ impl Kind {
 /// `Debug` has the same words, so that a `main` that returns a refusal prints them.
 #[derive(Clone, Copy, PartialEq, Eq, Hash)]
 pub struct Refusal {
-    /// 1 to 19, as the papers number them; see [`Refusal::kind`].
+    /// 1 to 20, as the papers number them; see [`Refusal::kind`].
     pub number: u8,
     /// Mostly the place of a byte. A length for 1 (the record's) and 12 (the one needed).
     pub place: u32,
@@ -248,6 +251,13 @@ fn operation_words(refusal: Refusal) -> String {
             "at byte {place} of the expression's text stands a number that is no goal or was met \
              before, or the text ends there and a goal is missing"
         ),
+        Kind::BadHeads => {
+            "the row has not 1 to 8 heads; or at a tick a head's goal is none of the \
+                           clause, on two heads or ended, its ticks left are wrong, an ended goal \
+                           is none of the clause, or a busy or ended goal has a predecessor that \
+                           has not ended"
+                .to_string()
+        }
         _ => format!("at {place}, for a reason that this version does not know"),
     }
 }
@@ -286,7 +296,7 @@ mod tests {
             assert!(!seen.contains(&words));
             seen.push(words);
         }
-        assert_eq!((Kind::of(0), Kind::of(20)), (Kind::Unknown, Kind::Unknown));
+        assert_eq!((Kind::of(0), Kind::of(21)), (Kind::Unknown, Kind::Unknown));
     }
 
     #[test]
