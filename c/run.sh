@@ -3,7 +3,7 @@
 # Tests the C face: compiles the header as C and C++ without a warning, tests its helpers,
 # calls every function and compares the answers, holds it against the conformance kit, and
 # runs the C program `sheet` on every sample beside the proved program.
-#   LFJ_LIB_DIR   a folder that has liblfj.a, which is then taken and not built
+#   LFJ_LIB_DIR   a folder that has liblfj.a and liblfj_dispatch.a, which are then taken and not built
 #   SHEET         the proved program `sheet`, which is then taken and not built
 #   CC, CXX       the compilers; cc and c++ if not set
 # Status 0 if all is right, 1 if not, 2 with a wrong argument or without the library.

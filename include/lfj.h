@@ -190,22 +190,21 @@ uint64_t lfj_listed(const uint8_t *record, size_t n, uint64_t rows[LFJ_VARIABLE_
  * predecessors have all ended; then every busy head works one tick, and at 0 left its goal
  * has ended and the head is idle. Clauses without a form are dispatched too.
  *
- * A run on three heads until all goals have ended:
+ * A run on three heads, from a start until all goals have ended:
  *
  *     struct lfj_head heads[3];
- *     uint32_t ended = 0;
- *     unsigned ticks = 0;
- *     unsigned goals = lfj_goal_count(lfj_read(record, n));
+ *     uint32_t all = lfj_all_goals(lfj_goal_count(lfj_read(record, n)));
  *     uint64_t answer = lfj_start(record, n, heads, 3);
- *     while (lfj_refusal(answer) == LFJ_ACCEPTED) {
- *         ended = lfj_ended(answer);
- *         if (ended == lfj_all_goals(goals))
- *             break;
+ *     uint32_t ended = lfj_ended(answer);
+ *     uint32_t ticks = 0;
+ *     while (lfj_refusal(answer) == LFJ_ACCEPTED && ended != all) {
  *         answer = lfj_tick(record, n, heads, 3, ended);
+ *         ended = lfj_ended(answer);
  *         ticks++;
  *     }
  *
- * A refused call gives back no set, so its answer is not stored over the caller's.
+ * No tick of a run is refused. Any other may be: a refused call gives back no set, and must
+ * not be stored over the caller's.
  */
 
 /*

@@ -24,7 +24,7 @@ wrong() {
     exit 2
 }
 
-commands="the commands are sheet, explain, draw, record, show"
+commands="the commands are sheet, explain, draw, dispatch, record, show"
 case ${1-} in
 -h | --help)
     answer cat "$help/annotate.txt"
@@ -32,6 +32,7 @@ case ${1-} in
 --version) version ;;
 sheet) options="--names" ;;
 draw) options="--text -o" ;;
+dispatch) options="--heads --text -o" ;;
 record) options="--hex" ;;
 explain | show) options="" ;;
 *)
@@ -46,14 +47,21 @@ explain | show) options="" ;;
 esac
 
 command=$1
+needs_file="-o needs a file"
+needs_number="--heads needs a number from 1 to 8"
 files=0
-skip=1 # the command, or the file behind -o
+skip=1 # the command, or the word behind -o or --heads
 for word in "$@"; do
     if [ $skip = 1 ]; then
         skip=0
     elif [ $skip = out ]; then
-        [ -n "$word" ] || wrong "$command" "-o needs a file"
+        [ -n "$word" ] || wrong "$command" "$needs_file"
         skip=0
+    elif [ $skip = heads ]; then
+        case $word in
+        [1-8]) skip=0 ;;
+        *) wrong "$command" "$needs_number" ;;
+        esac
     else
         case $word in
         -h | --help)
@@ -62,7 +70,12 @@ for word in "$@"; do
         --version) version ;;
         -?*)
             case " $options " in
-            *" $word "*) [ "$word" != -o ] || skip=out ;;
+            *" $word "*)
+                case $word in
+                -o) skip=out ;;
+                --heads) skip=heads ;;
+                esac
+                ;;
             *) wrong "$command" "\`$word\` is none of its options" ;;
             esac
             ;;
@@ -74,7 +87,8 @@ for word in "$@"; do
         esac
     fi
 done
-[ $skip = 0 ] || wrong "$command" "-o needs a file"
+[ $skip != out ] || wrong "$command" "$needs_file"
+[ $skip != heads ] || wrong "$command" "$needs_number"
 [ $files = 1 ] || wrong "$command" "a file is missing; - is standard input"
 
 sh "$here/build.sh" annotate </dev/null >&2 || exit 2

@@ -3,7 +3,7 @@
 # Builds the proved static library and the Rust programs that link it, or one package's alone,
 # into rust/target/release.
 # The library that was built last is reused while it is newer than the crates.
-#   LFJ_LIB_DIR   a folder that has liblfj.a, which is then taken and not built
+#   LFJ_LIB_DIR   a folder that has liblfj.a and liblfj_dispatch.a, which are then taken and not built
 # Status 0 if all is built, 1 if not, 2 with a wrong argument or without the library.
 set -eu
 top=$(CDPATH='' cd -- "$(dirname -- "$0")/.." && pwd)

@@ -1,7 +1,7 @@
 #!/bin/sh
 # usage: rust/stack.sh
 # Each operation at its worst input on a stack of 256 KB, and the least stack it runs on.
-#   LFJ_LIB_DIR   a folder that has liblfj.a, which is then taken and not built
+#   LFJ_LIB_DIR   a folder that has liblfj.a and liblfj_dispatch.a, which are then taken and not built
 # Status 0 if every operation runs on that stack, 1 if not, 2 with a wrong argument or without the library.
 set -eu
 top=$(CDPATH='' cd -- "$(dirname -- "$0")/.." && pwd)

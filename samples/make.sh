@@ -2,7 +2,8 @@
 # usage: samples/make.sh
 # Writes each sample's files anew from its description (.txt): the record (.lfj), its hexadecimal
 # (.hex), its sheet by the hand-written annotator (.sheet), which the proved one is held against,
-# and its picture (.svg) if the record is accepted.
+# and its picture (.svg) if the record is accepted; of some also the charts of runs on K heads
+# (.heads-K.chart, .heads-K.svg).
 set -eu
 top=$(CDPATH='' cd -- "$(dirname -- "$0")/.." && pwd)
 . "$top/scripts/script.sh"
@@ -33,3 +34,13 @@ for text in *.txt; do
         into "$name.svg" "$annotate" draw "$text"
     fi
 done
+
+# chart NAME HEADS: the sample's charts of a run on so many heads
+chart() {
+    into "$1.heads-$2.chart" "$annotate" dispatch --heads "$2" --text "$1.txt"
+    into "$1.heads-$2.svg" "$annotate" dispatch --heads "$2" "$1.txt"
+}
+
+chart side-by-side 3
+chart more-heads 2
+chart more-heads 3

@@ -25,6 +25,9 @@ sheet=$(sh "$annotate" sheet --names "$1") || status=$?
 if [ -n "$sheet" ]; then
     printf '%s\n' "$sheet" || exit 2
     echo "# in words: rust/annotate.sh explain $1" || exit 2
-    [ $status -ne 0 ] || echo "# as a picture: rust/annotate.sh draw --text $1" || exit 2
+    [ $status -ne 0 ] || {
+        echo "# as a picture: rust/annotate.sh draw --text $1"
+        echo "# on three heads: rust/annotate.sh dispatch --heads 3 --text $1"
+    } || exit 2
 fi
 exit $status

@@ -1,11 +1,12 @@
 #!/bin/sh
 # usage: scripts/archive.sh
-# Writes target/lfj-VERSION-x86_64-linux.tar.gz: the header, liblfj.a, lfj.pc, a README, the
-# program c/sheet.c as an example, and the conformance kit. It works without the Rattle kit,
-# in whatever folder it is unpacked. The same files always give the same bytes.
+# Writes target/lfj-VERSION-x86_64-linux.tar.gz: the header, liblfj.a, liblfj_dispatch.a, their
+# files for pkg-config, a README, the program c/sheet.c as an example, and the conformance kit. It
+# works without the Rattle kit, in whatever folder it is unpacked. The same files always give the
+# same bytes.
 #   --help        prints this
 #   --version     prints the version that the archive has
-#   LFJ_LIB_DIR   a folder that has liblfj.a, which is then taken and not built
+#   LFJ_LIB_DIR   a folder that has liblfj.a and liblfj_dispatch.a, which are then taken and not built
 # Needs GNU tar. Status 0 if it is written, 1 if not, 2 with a wrong argument or without the library.
 set -eu
 umask 022
@@ -24,7 +25,7 @@ mkdir -p "$top/target"
 work_folder
 stage=$work/$name
 
-# shellcheck disable=SC2016 # pkg-config puts in the folder of lfj.pc
+# shellcheck disable=SC2016 # pkg-config puts in the folder of the .pc
 put_library "$stage" '${pcfiledir}/../..'
 put "$top/c/LIBRARY.md" "$stage"
 mv "$stage/LIBRARY.md" "$stage/README.md"

@@ -1,6 +1,9 @@
 # What the scripts share. To be sourced with `top` set to the repository's root and before any
 # cd, so that a relative path is taken from the folder in which the script was called.
 
+# The static libraries, each by the name of its crate.
+LIBRARIES="lfj lfj_dispatch"
+
 # show_help: prints the comment at the head of the script that was called
 show_help() {
     sed -n -e 1d -e '/^#/!q' -e 's/^# \{0,1\}//p' "$0" || exit 2

@@ -5,7 +5,7 @@
 # a part that fails the last lines are shown. Takes a few minutes.
 #   --help        prints this
 #   --list        prints the parts, each with its command
-#   LFJ_LIB_DIR   a folder that has liblfj.a, which is then taken and not built
+#   LFJ_LIB_DIR   a folder that has liblfj.a and liblfj_dispatch.a, which are then taken and not built
 #   SHEET         the proved program `sheet`, which is then taken and not built
 # Without these two the Rattle kit's rt has to be on the path: it proves and builds both, once.
 # Status 0 if no part fails, 1 if one does, 2 with a wrong argument or without the library.

@@ -3,7 +3,7 @@
 # Tests install.sh and archive.sh: installs into a folder of its own, writes the archive twice
 # and compares, unpacks it, and builds the example by pkg-config and without, with no rt on the
 # path; it has to print the samples' sheets.
-#   LFJ_LIB_DIR   a folder that has liblfj.a, which is then taken and not built
+#   LFJ_LIB_DIR   a folder that has liblfj.a and liblfj_dispatch.a, which are then taken and not built
 #   CC            the compiler; cc if not set
 # Status 0 if all is right, 1 if not, 2 with a wrong argument or without the library.
 set -eu

@@ -6,7 +6,7 @@ use std::env;
 use std::path::PathBuf;
 
 /// The libraries' names; each has a crate of the same name.
-const LIBRARIES: [&str; 2] = ["lfj_dispatch", "lfj"];
+const LIBRARIES: [&str; 2] = ["lfj", "lfj_dispatch"];
 
 /// Ends the build with these lines.
 fn fail(lines: &[String]) -> ! {

@@ -1,6 +1,8 @@
 //! The picture of a clause: its dependency graph beside its fork-join form, for a page or a
 //! terminal. A clause without a form has the four goals that show it in place of the form.
+//! And the chart of a run on several heads.
 
+pub mod chart;
 mod fork_join;
 mod graph;
 mod halves;
@@ -9,6 +11,7 @@ mod page;
 mod places;
 mod svg;
 mod terminal;
+mod texts;
 mod waits;
 
 pub use page::svg;

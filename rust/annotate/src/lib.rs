@@ -1,6 +1,7 @@
 //! The desk's tool over the proved annotator: the parts of the program `annotate`.
 #![forbid(unsafe_code)]
 
+pub mod chart;
 pub mod describe;
 pub mod draw;
 pub mod explain;

@@ -1,5 +1,6 @@
 //! The commands.
 
+use crate::chart::Chart;
 use crate::failure::Failure;
 use crate::input::{self, Input};
 use crate::output::{print, write};
@@ -9,6 +10,9 @@ use crate::view::View;
 use crate::{describe, draw, explain, hex, sheet};
 use lfj::Refusal;
 use std::io::{self, IsTerminal};
+
+/// The heads of a run whose number is not named.
+const HEADS: usize = 2;
 
 /// Does what the words ask for: the exit status.
 pub fn run(words: &[String]) -> Result<u8, Failure> {
@@ -21,6 +25,7 @@ pub fn run(words: &[String]) -> Result<u8, Failure> {
         "sheet" => print_sheet(&call, &input),
         "explain" => print_explanation(input),
         "draw" => write_picture(&call, input),
+        "dispatch" => write_chart(&call, &input),
         "record" => print_record(&call, &input),
         _ => print_description(&call, &input),
     }
@@ -68,6 +73,15 @@ fn write_picture(call: &Call, input: Input) -> Result<u8, Failure> {
     let view = view(input);
     let scene = Scene::of(&view).map_err(|refusal| call.refused(&view.record, refusal))?;
     let picture = if call.has("--text") { draw::text(&scene) } else { draw::svg(&scene) };
+    write(call.out.as_deref(), picture.as_bytes())?;
+    Ok(0)
+}
+
+fn write_chart(call: &Call, input: &Input) -> Result<u8, Failure> {
+    let chart = Chart::of(&input.name, &input.record, call.heads.unwrap_or(HEADS));
+    let chart = chart.map_err(|refusal| call.refused(&input.record, refusal))?;
+    let picture =
+        if call.has("--text") { draw::chart::text(&chart) } else { draw::chart::svg(&chart) };
     write(call.out.as_deref(), picture.as_bytes())?;
     Ok(0)
 }

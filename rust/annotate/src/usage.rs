@@ -2,6 +2,7 @@
 //! prints the same texts before anything is built.
 
 use crate::failure::Failure;
+use lfj::dispatch::HEADS_LIMIT;
 
 pub const HELP: &str = include_str!("../help/annotate.txt");
 pub const VERSION: &str = concat!("annotate ", env!("CARGO_PKG_VERSION"), "\n");
@@ -14,10 +15,15 @@ pub struct Command {
     options: &'static [&'static str],
 }
 
-const COMMANDS: [Command; 5] = [
+const COMMANDS: [Command; 6] = [
     Command { name: "sheet", help: include_str!("../help/sheet.txt"), options: &["--names"] },
     Command { name: "explain", help: include_str!("../help/explain.txt"), options: &[] },
     Command { name: "draw", help: include_str!("../help/draw.txt"), options: &["--text", "-o"] },
+    Command {
+        name: "dispatch",
+        help: include_str!("../help/dispatch.txt"),
+        options: &["--heads", "--text", "-o"],
+    },
     Command { name: "record", help: include_str!("../help/record.txt"), options: &["--hex"] },
     Command { name: "show", help: include_str!("../help/show.txt"), options: &[] },
 ];
@@ -35,10 +41,18 @@ pub enum Asked {
 pub struct Call {
     pub command: &'static str,
     pub file: String,
-    /// The options that are given, but for `-o`.
+    /// The options that are given, but for those with a word behind them.
     pub options: Vec<String>,
     /// The file behind `-o`.
     pub out: Option<String>,
+    /// The number behind `--heads`.
+    pub heads: Option<usize>,
+}
+
+/// The number of heads that a word says.
+fn heads(word: &String) -> Option<usize> {
+    let digit = Some(word).filter(|word| word.len() == 1)?;
+    digit.parse().ok().filter(|heads| (1..=HEADS_LIMIT).contains(heads))
 }
 
 impl Command {
@@ -49,7 +63,7 @@ impl Command {
     }
 
     fn call(&self, words: &[String]) -> Result<Asked, Failure> {
-        let (mut file, mut options, mut out) = (None, Vec::new(), None);
+        let (mut file, mut options, mut out, mut on) = (None, Vec::new(), None, None);
         let mut words = words.iter();
         while let Some(word) = words.next() {
             if word == "--help" || word == "-h" {
@@ -59,19 +73,26 @@ impl Command {
             } else if word.starts_with('-') && word != "-" {
                 if !self.options.contains(&word.as_str()) {
                     return Err(self.wrong(format!("`{word}` is none of its options")));
-                } else if word != "-o" {
-                    options.push(word.clone());
-                    continue;
                 }
-                let named = words.next().filter(|name| !name.is_empty());
-                out = Some(named.ok_or_else(|| self.wrong("-o needs a file".into()))?.clone());
+                match word.as_str() {
+                    "-o" => {
+                        let named = words.next().filter(|name| !name.is_empty()).cloned();
+                        out = Some(named.ok_or_else(|| self.wrong("-o needs a file".into()))?);
+                    }
+                    "--heads" => {
+                        let limit = "--heads needs a number from 1 to 8";
+                        let number = words.next().and_then(heads);
+                        on = Some(number.ok_or_else(|| self.wrong(limit.into()))?);
+                    }
+                    _ => options.push(word.clone()),
+                }
             } else if let Some(first) = file.replace(word.clone()) {
                 return Err(self.wrong(format!("one file, not both `{first}` and `{word}`")));
             }
         }
         let file =
             file.ok_or_else(|| self.wrong("a file is missing; - is standard input".into()))?;
-        Ok(Asked::Run(Call { command: self.name, file, options, out }))
+        Ok(Asked::Run(Call { command: self.name, file, options, out, heads: on }))
     }
 }
 

@@ -10,7 +10,7 @@ use std::fs;
 #[test]
 fn the_files_are_what_the_descriptions_give() {
     let readme = fs::read_to_string(samples().join("README.md")).unwrap();
-    assert_eq!(program::names().len(), 12);
+    assert_eq!(program::names().len(), 14);
     for name in program::names() {
         let file = |end: &str| fs::read(samples().join(format!("{name}.{end}"))).unwrap();
         let path = |end: &str| samples().join(format!("{name}.{end}")).display().to_string();
@@ -80,12 +80,38 @@ fn explained_and_drawn() {
         let explained = annotate(&["explain", &file]);
         assert_eq!((explained.status, explained.err.as_str()), (refused as i32, ""), "{name}");
         assert!(!explained.out.is_empty(), "{name}");
-        for options in [&["draw", &file][..], &["draw", "--text", &file]] {
+        for options in [
+            &["draw", &file][..],
+            &["draw", "--text", &file],
+            &["dispatch", &file],
+            &["dispatch", "--text", &file, "--heads", "8"],
+        ] {
             let drawn = annotate(options);
             assert_eq!((drawn.status, drawn.out.is_empty()), (refused as i32, refused), "{name}");
             assert_eq!(drawn.err.is_empty(), !refused, "{name}: {}", drawn.err);
         }
     }
+}
+
+/// The charts beside the samples: `NAME.heads-K.chart` and the same as SVG.
+#[test]
+fn charts() {
+    let mut charts = 0;
+    for file in fs::read_dir(samples()).unwrap() {
+        let path = file.unwrap().path();
+        let file = path.file_name().unwrap().to_str().unwrap();
+        let Some((name, rest)) = file.split_once(".heads-") else { continue };
+        let (heads, ending) = rest.split_once('.').unwrap();
+        let clause = samples().join(format!("{name}.txt")).display().to_string();
+        let mut words = vec!["dispatch", "--heads", heads, &clause];
+        if ending == "chart" {
+            words.push("--text");
+        }
+        let wanted = Answer { status: 0, out: fs::read(&path).unwrap(), err: String::new() };
+        assert_eq!(annotate(&words), wanted, "{file}");
+        charts += 1;
+    }
+    assert_eq!(charts, 6);
 }
 
 /// A description, its record and its hexadecimal give the same picture, as far as they say the

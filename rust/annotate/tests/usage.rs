@@ -9,7 +9,7 @@ use std::io::Write;
 use std::path::Path;
 use std::process::{Command, Stdio};
 
-const WRONG: [&[&str]; 13] = [
+const WRONG: [&[&str]; 20] = [
     &[],
     &["paint"],
     &["--paint"],
@@ -23,9 +23,16 @@ const WRONG: [&[&str]; 13] = [
     &["draw", "-o", "a"],
     &["draw", "-x", "--help"],
     &["show", "a", "-", "b"],
+    &["draw", "--heads", "2", "a"],
+    &["dispatch", "--heads", "2"],
+    &["dispatch", "a", "--heads"],
+    &["dispatch", "a", "--heads", "0"],
+    &["dispatch", "--heads", "9", "a"],
+    &["dispatch", "--heads", "+2", "a"],
+    &["dispatch", "--heads", "", "a"],
 ];
 
-const HELP: [&[&str]; 12] = [
+const HELP: [&[&str]; 14] = [
     &["--help"],
     &["-h", "sheet"],
     &["--version"],
@@ -38,6 +45,8 @@ const HELP: [&[&str]; 12] = [
     &["sheet", "--version"],
     &["draw", "-o", "a", "--version"],
     &["show", "a", "--version"],
+    &["dispatch", "--heads", "3", "--help"],
+    &["dispatch", "--version"],
 ];
 
 #[test]
@@ -53,6 +62,8 @@ fn wrong_words() {
     let file = |words: &[&str]| annotate(words).err.lines().next().unwrap_or_default().to_string();
     assert_eq!(file(&["sheet"]), "annotate sheet: a file is missing; - is standard input");
     assert_eq!(file(&["draw", "--hex"]), "annotate draw: `--hex` is none of its options");
+    let heads = file(&["dispatch", "a", "--heads", "many"]);
+    assert_eq!(heads, "annotate dispatch: --heads needs a number from 1 to 8");
 }
 
 #[test]
@@ -66,7 +77,7 @@ fn help() {
     let version = format!("annotate {}\n", env!("CARGO_PKG_VERSION"));
     assert_eq!(annotate(&["--version"]).text(), version);
     let whole = annotate(&["--help"]);
-    for command in ["sheet", "explain", "draw", "record", "show"] {
+    for command in ["sheet", "explain", "draw", "dispatch", "record", "show"] {
         let help = annotate(&[command, "--help"]);
         let usage = help.text().lines().next().unwrap().trim_start_matches("usage: ");
         assert!(whole.text().contains(usage), "--help lacks {usage}");
@@ -114,6 +125,8 @@ fn files_that_cannot_be_read_or_written() {
         &["explain", &clause],
         &["draw", &clause],
         &["draw", "--text", &clause],
+        &["dispatch", &clause],
+        &["dispatch", "--text", &clause],
         &["record", &clause],
         &["record", "--hex", &clause],
         &["show", &clause],
@@ -141,6 +154,9 @@ fn a_picture_in_a_file() {
     assert_eq!(answer, Answer { status: 0, out: Vec::new(), err: String::new() });
     assert_eq!(fs::read(&file).unwrap(), annotate(&["draw", &clause]).out);
     assert_eq!(annotate(&["draw", "-o", "-", &clause]), annotate(&["draw", &clause]));
+    let answer = annotate(&["dispatch", "-o", &file, &clause]);
+    assert_eq!(answer, Answer { status: 0, out: Vec::new(), err: String::new() });
+    assert_eq!(fs::read(&file).unwrap(), annotate(&["dispatch", &clause, "--heads", "2"]).out);
 }
 
 #[test]

@@ -261,17 +261,17 @@ fn worked(before: &[Head], after: &[Head], ended: u32) -> Vec<u32> {
     before.iter().map(goal).collect()
 }
 
-/// A heaviest chain of goals, and its ticks.
+/// A heaviest chain of goals, the lowest from its end on, and its ticks.
 fn heaviest_chain(order: &crate::Order, ticks: &[u32]) -> (Vec<u32>, u32) {
     // Of each goal the heaviest chain that ends with it. A goal waits for lower numbers alone.
     let mut chains: Vec<(Vec<u32>, u32)> = Vec::new();
     for (goal, ticks) in (1..=order.goals).zip(ticks) {
-        let before = (1..goal).filter(|before| order.before(*before, goal));
+        let before = (1..goal).rev().filter(|before| order.before(*before, goal));
         let before = before.map(|before| &chains[before as usize - 1]);
         let (mut chain, weight) =
             before.max_by_key(|(_, weight)| *weight).cloned().unwrap_or_default();
         chain.push(goal);
         chains.push((chain, weight + ticks));
     }
-    chains.into_iter().max_by_key(|(_, weight)| *weight).expect("a clause has a goal")
+    chains.into_iter().rev().max_by_key(|(_, weight)| *weight).expect("a clause has a goal")
 }

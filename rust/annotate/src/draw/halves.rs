@@ -2,8 +2,9 @@
 
 use super::fork_join::{self, Block, Shape};
 use super::graph::{self, Graph};
-use super::page::{GOAL, HEADING, MARKED, Page, WORDS};
+use super::page::{MARKED, Page};
 use super::svg::{GREY, HEAD, INK, Pen};
+use super::texts::{GOAL, HEADING, WORDS};
 use super::{NO_FORM, Point, Rect, Size, form_line, waits};
 
 /// From the top of a half to its picture.
@@ -39,7 +40,7 @@ impl Page<'_> {
         self.svg.text(0.0, 12.0, "Dependency graph", HEADING, false);
         self.svg.origin.y += TOP;
         self.graph(&graph);
-        let below = self.write(graph.size.height + BELOW, &words, WORDS, graph.size.width);
+        let below = self.svg.write(graph.size.height + BELOW, &words, WORDS, graph.size.width);
         self.svg.origin.y -= TOP;
         Size { width: below.width.max(graph.size.width), height: TOP + below.height }
     }
@@ -76,7 +77,7 @@ impl Page<'_> {
             None => self.no_form(),
         };
         let form = form_line(self.scene);
-        let below = self.write(picture.height + BELOW, &form, GOAL, picture.width);
+        let below = self.svg.write(picture.height + BELOW, &form, GOAL, picture.width);
         self.svg.origin.y -= TOP;
         Size { width: picture.width.max(below.width), height: TOP + below.height }
     }
@@ -110,7 +111,7 @@ impl Page<'_> {
     fn no_form(&mut self) -> Size {
         let right = self.size.width + FOUR_ACROSS;
         let width = right + self.size.width;
-        let words = self.write(-4.0, NO_FORM, WORDS, width);
+        let words = self.svg.write(-4.0, NO_FORM, WORDS, width);
         let Some([a, b, c, d]) = self.scene.four else { return words };
         let upper = words.height + BELOW;
         let lower = upper + self.size.height + FOUR_DOWN;

@@ -4,7 +4,7 @@ use super::{NO_FORM, form_line, letter, lines, waits};
 use crate::scene::Scene;
 use lfj::Expr;
 
-const COLUMNS: usize = 100;
+pub const COLUMNS: usize = 100;
 
 /// The picture of a clause as text: for each goal the goals that it waits for directly, and the
 /// fork-join form from top to bottom.
@@ -27,9 +27,7 @@ const COLUMNS: usize = 100;
 /// ```
 pub fn text(scene: &Scene) -> String {
     let mut out = String::new();
-    let title: String =
-        scene.title.chars().map(|sign| if sign.is_control() { '?' } else { sign }).collect();
-    put(&mut out, &title, "");
+    put(&mut out, &title(&scene.title), "");
     out.push('\n');
     table(scene, &mut out);
     out.push('\n');
@@ -47,8 +45,13 @@ pub fn text(scene: &Scene) -> String {
     out
 }
 
+/// A title without what a terminal would not print.
+pub fn title(text: &str) -> String {
+    text.chars().map(|sign| if sign.is_control() { '?' } else { sign }).collect()
+}
+
 /// A text in lines, those after the first with this indent.
-fn put(out: &mut String, text: &str, indent: &str) {
+pub fn put(out: &mut String, text: &str, indent: &str) {
     let ends = |sign| matches!(sign, ' ' | ',' | '&');
     for (row, line) in lines(text, COLUMNS - indent.len(), ends).iter().enumerate() {
         *out += &format!("{}{line}\n", if row == 0 { "" } else { indent });
