@@ -5,7 +5,8 @@
  *
  * One line `OPERATION K INPUT..` in, one answer out; kit/README.md has the format. Whatever
  * is lent has guard bytes around it. A byte that changed though it had to stay is answered
- * by `error` and which; so is an order of which lfj_after says another row.
+ * by `error` and which; so is an order of which lfj_after says another row. A run is a start
+ * and its ticks; the ticks of all goals and of the heaviest chain are summed here.
  */
 #include "lent.h"
 #include "lfj.h"
@@ -214,7 +215,114 @@ static void answer_sheet(struct text *out, const struct lent *input, const char 
     free(sheet.bytes);
 }
 
-/* An operation, and how many fields stand behind its record. */
+/* A row of k heads to be lent. */
+static struct lent lend_row(size_t k)
+{
+    return lend(k * sizeof(struct lfj_head));
+}
+
+static struct lfj_head *heads_of(const struct lent *row)
+{
+    return (struct lfj_head *)(void *)row->bytes;
+}
+
+/* Holds the row against the answer: one that is refused has to leave it as it was. */
+static int row_accepted(uint64_t answer, const struct lent *row)
+{
+    int accepted = lfj_refusal(answer) == LFJ_ACCEPTED;
+    hold(lent_kept(row, accepted ? row->length : 0), "a byte of the row changed that had to stay");
+    hold(!accepted || answer == lfj_ended(answer), "an answer with bits beside the set");
+    return accepted;
+}
+
+static void add_row(struct text *out, uint64_t answer, const struct lent *row, size_t k)
+{
+    size_t i;
+    if (!row_accepted(answer, row)) {
+        refused(out, answer);
+        return;
+    }
+    text_print(out, "ok %08lx %lu", (unsigned long)lfj_ended(answer), (unsigned long)k);
+    for (i = 0; i < k; i++)
+        text_print(out, " %lu %lu", (unsigned long)heads_of(row)[i].goal,
+                   (unsigned long)heads_of(row)[i].left);
+}
+
+static void answer_start(struct text *out, const struct lent *record, const char *field)
+{
+    size_t k = (size_t)strtoul(field, NULL, 10);
+    struct lent row = lend_row(k);
+    add_row(out, lfj_start(record->bytes, record->length, heads_of(&row), k), &row, k);
+    give_back(&row);
+}
+
+static void answer_tick(struct text *out, const struct lent *record, const char *fields)
+{
+    char *rest;
+    uint32_t ended = (uint32_t)strtoul(fields, &rest, 16);
+    size_t k = (size_t)strtoul(rest, &rest, 10);
+    struct lent row = lend_row(k);
+    size_t i;
+    for (i = 0; i < k; i++) {
+        hold(*rest == ' ', "the row has fewer heads than it says");
+        heads_of(&row)[i].goal = (uint32_t)strtoul(rest, &rest, 10);
+        heads_of(&row)[i].left = (uint32_t)strtoul(rest, &rest, 10);
+    }
+    hold(*rest == '\0', "something stands behind the row");
+    lent_remember(&row);
+    if (wrong == NULL)
+        add_row(out, lfj_tick(record->bytes, record->length, heads_of(&row), k, ended), &row, k);
+    give_back(&row);
+}
+
+/* The ticks of the heaviest chain of an accepted record. A goal waits for lower numbers alone. */
+static uint32_t heaviest_chain(const struct lent *record, const uint32_t ticks[LFJ_GOAL_MAX])
+{
+    uint32_t rows[LFJ_GOAL_MAX];
+    uint32_t chains[LFJ_GOAL_MAX] = {0};
+    uint32_t heaviest = 0;
+    unsigned i;
+    unsigned j;
+    lfj_order(record->bytes, record->length, rows);
+    for (j = 1; j <= LFJ_GOAL_MAX; j++) {
+        for (i = 1; i < j; i++)
+            if (lfj_before(rows, i, j) && chains[i - 1] > chains[j - 1])
+                chains[j - 1] = chains[i - 1];
+        chains[j - 1] += ticks[j - 1];
+        if (chains[j - 1] > heaviest)
+            heaviest = chains[j - 1];
+    }
+    return heaviest;
+}
+
+static void answer_run(struct text *out, const struct lent *record, const char *field)
+{
+    size_t k = (size_t)strtoul(field, NULL, 10);
+    struct lent row = lend_row(k);
+    uint64_t answer = lfj_start(record->bytes, record->length, heads_of(&row), k);
+    int accepted = row_accepted(answer, &row);
+    uint32_t all = lfj_all_goals(lfj_goal_count(lfj_read(record->bytes, record->length)));
+    uint32_t ticks[LFJ_GOAL_MAX] = {0};
+    uint32_t total = 0;
+    uint32_t last = 0;
+    unsigned goal;
+    for (; accepted && wrong == NULL && lfj_ended(answer) != all; last++) {
+        answer = lfj_tick(record->bytes, record->length, heads_of(&row), k, lfj_ended(answer));
+        hold(row_accepted(answer, &row), "a tick of a run was refused");
+    }
+    lfj_ticks(record->bytes, record->length, ticks);
+    for (goal = 1; goal <= LFJ_GOAL_MAX; goal++)
+        total += ticks[goal - 1];
+    if (accepted)
+        text_print(out, "ok %lu %lu %lu", (unsigned long)last, (unsigned long)total,
+                   (unsigned long)heaviest_chain(record, ticks));
+    else
+        refused(out, answer);
+    give_back(&row);
+}
+
+/* An operation, and how many fields stand behind its record, as one text; a tick has more, two
+ * for each head. */
 struct operation {
     const char *name;
     int fields;
@@ -224,7 +332,8 @@ struct operation {
 static const struct operation operations[] = {
     {"read", 0, answer_read},     {"order", 0, answer_order}, {"form", 1, answer_form},
     {"length", 0, answer_length}, {"mel", 1, answer_mel},     {"text", 1, answer_text},
-    {"check", 1, answer_check},   {"sheet", 0, answer_sheet},
+    {"check", 1, answer_check},   {"sheet", 0, answer_sheet}, {"start", 1, answer_start},
+    {"tick", 2, answer_tick},     {"run", 1, answer_run},
 };
 
 static const struct operation *operation_called(const char *name)
@@ -243,30 +352,39 @@ static int not_offered(const char *name)
     return strcmp(name, "waits") == 0 || strcmp(name, "unread") == 0;
 }
 
+/* How many words a text has; none if it is NULL. */
+static int count_words(const char *text)
+{
+    int count = 0;
+    for (; text != NULL && *text != '\0'; text++)
+        count += *text != ' ' && (text[1] == ' ' || text[1] == '\0');
+    return count;
+}
+
 /* Answers one question. Skipped is what the library does not offer, and what another number of
  * landed requests settles. */
 static void answer_question(struct text *out, char *question)
 {
-    const char *words[5] = {NULL, NULL, NULL, NULL, NULL};
-    const struct operation *operation;
+    const char *name = strtok(question, " ");
+    const char *landed = strtok(NULL, " ");
+    const char *hex = strtok(NULL, " ");
+    const char *fields = strtok(NULL, "");
+    int count = count_words(fields);
+    const struct operation *operation = name != NULL ? operation_called(name) : NULL;
     struct text bytes = {NULL, 0, 0};
     struct lent record;
-    int count = 0;
-    char *word;
-    for (word = strtok(question, " "); word != NULL && count < 5; word = strtok(NULL, " "))
-        words[count++] = word;
-    if (count > 1 && (not_offered(words[0]) || atoi(words[1]) != LANDED)) {
+    if (landed != NULL && (not_offered(name) || atoi(landed) != LANDED)) {
         text_print(out, "skip");
         return;
     }
-    operation = count > 0 ? operation_called(words[0]) : NULL;
     hold(operation != NULL, "no operation has this name");
-    hold(operation != NULL && count == 3 + operation->fields,
+    hold(operation != NULL && count >= operation->fields
+             && (count == operation->fields || operation->answer == answer_tick),
          "the question has not as many fields as its operation");
-    hold(count > 2 && hex_read(words[2], &bytes), "the record is not hexadecimal");
+    hold(hex != NULL && hex_read(hex, &bytes), "the record is not hexadecimal");
     record = lend_bytes((const uint8_t *)bytes.bytes, bytes.length);
     if (wrong == NULL)
-        operation->answer(out, &record, words[3]);
+        operation->answer(out, &record, fields);
     hold(lent_kept(&record, 0), "the record changed");
     give_back(&record);
     free(bytes.bytes);

@@ -1,7 +1,7 @@
 /*
- * Calls the functions of lfj.h that the conformance kit does not ask for, and compares what
- * they answer and write with values taken by hand from the samples' descriptions; tests NULL
- * where the length is 0, refused calls and the words of refusals.
+ * Calls every function of lfj.h, and compares what they answer and write with values taken by
+ * hand from the samples' descriptions; tests NULL where the length is 0, refused calls and the
+ * words of refusals, and runs clauses on several heads to their end.
  *
  *   calls FOLDER     the folder of the samples
  *
@@ -200,7 +200,9 @@ static void hold_refused(const char *name, const uint8_t *record, size_t n, uint
     struct lent lent = lend(LFJ_VARIABLE_MAX * sizeof(uint64_t));
     uint32_t *narrow = (uint32_t *)(void *)lent.bytes;
     uint64_t *wide = (uint64_t *)(void *)lent.bytes;
+    struct lfj_head *heads = (struct lfj_head *)(void *)lent.bytes;
     const uint8_t one = '1';
+    size_t k;
     hold(lfj_read(record, n) == refusal, name, "lfj_read");
     hold(lfj_after(record, n, 1) == refusal, name, "lfj_after");
     hold(lfj_order(record, n, narrow) == refusal, name, "lfj_order");
@@ -217,6 +219,12 @@ static void hold_refused(const char *name, const uint8_t *record, size_t n, uint
     hold(lfj_ground_sets(record, n, wide) == refusal, name, "lfj_ground_sets");
     hold(lfj_ticks(record, n, narrow) == refusal, name, "lfj_ticks");
     hold(lfj_listed(record, n, wide) == refusal, name, "lfj_listed");
+    for (k = 0; k <= LFJ_HEADS_MAX + 1; k++) {
+        hold(lfj_start(record, n, heads, k) == refusal, name, "lfj_start");
+        hold(lfj_tick(record, n, heads, k, 0) == refusal, name, "lfj_tick");
+    }
+    hold(lfj_start(record, n, NULL, 0) == refusal, name, "lfj_start without heads");
+    hold(lfj_tick(record, n, NULL, 0, 0) == refusal, name, "lfj_tick without heads");
     hold(lent_kept(&lent, 0), name, "a refused call changed what was lent");
     give_back(&lent);
 }
@@ -306,6 +314,131 @@ static void test_long_mel(const struct lent *record)
     give_back(&most);
 }
 
+/* A run of a sample on k heads: T, its last working tick, and of each tick that is listed the
+ * goals of the heads after it and the set of ended goals. */
+struct known_run {
+    const char *name;
+    size_t k;
+    unsigned last;
+    struct {
+        unsigned tick;
+        uint32_t goals[3];
+        uint32_t lefts[3];
+        uint32_t ended;
+    } after[4];
+};
+
+static const struct known_run runs[] = {
+    {"half-motif", 1, 3, {{1, {0}, {0}, 1}, {2, {0}, {0}, 3}, {3, {0}, {0}, 7}, {4, {0}, {0}, 7}}},
+    {"half-motif", 2, 2, {{1, {0}, {0}, 3}, {2, {0}, {0}, 7}, {3, {0}, {0}, 7}, {9, {0}, {0}, 7}}},
+    {"durations", 3, 61200,
+     {{1, {1, 2, 3}, {39, 1199, 899}, 0},
+      {900, {0, 2, 0}, {0, 300, 0}, 5},
+      {1201, {4, 0, 0}, {59999, 0, 0}, 7},
+      {61200, {0}, {0}, 15}}},
+    {"more-heads", 2, 13,
+     {{2, {0}, {0}, 7},
+      {3, {4, 5}, {2, 10}, 7},
+      {12, {7, 5}, {1, 1}, 47},
+      {13, {0}, {0}, 127}}},
+    {"more-heads", 3, 16,
+     {{2, {6, 0, 7}, {3, 0, 3}, 7},
+      {3, {6, 4, 7}, {2, 2, 2}, 7},
+      {5, {0}, {0}, 111},
+      {16, {0}, {0}, 127}}},
+    {"no-form", 2, 2, {{1, {0}, {0}, 3}, {2, {0}, {0}, 15}, {3, {0}, {0}, 15}, {4, {0}, {0}, 15}}},
+};
+
+#define RUNS (sizeof runs / sizeof runs[0])
+
+/* Calls a tick on a guarded row. Accepted, the set; refused, by 20, and the row has to stay. */
+static uint64_t guarded_tick(const struct known_run *known, const struct lent *record,
+                             struct lent *row, uint32_t ended)
+{
+    struct lfj_head *heads = (struct lfj_head *)(void *)row->bytes;
+    uint64_t answer = lfj_tick(record->bytes, record->length, heads, known->k, ended);
+    int refused = lfj_refusal(answer) != LFJ_ACCEPTED;
+    hold(lent_kept(row, refused ? 0 : row->length), known->name, "a tick changed what had to stay");
+    hold(!refused || answer == refusal_word(LFJ_BAD_HEADS, 0), known->name, "another refusal");
+    lent_remember(row);
+    return answer;
+}
+
+/* Rows and sets that no tick takes, made of one that it takes. */
+static void test_refused_ticks(const struct known_run *known, const struct lent *record)
+{
+    struct lent row = lend(known->k * sizeof(struct lfj_head));
+    struct lfj_head *heads = (struct lfj_head *)(void *)row.bytes;
+    static const struct lfj_head wrong_heads[] = {{33, 1}, {1, 0}, {1, 60001}, {0, 1}};
+    size_t i;
+    for (i = 0; i < sizeof wrong_heads / sizeof wrong_heads[0]; i++) {
+        lfj_start(record->bytes, record->length, heads, known->k);
+        heads[known->k - 1] = wrong_heads[i];
+        lent_remember(&row);
+        hold(lfj_refusal(guarded_tick(known, record, &row, 0)) == LFJ_BAD_HEADS, known->name,
+             "a head that is wrong");
+    }
+    lfj_start(record->bytes, record->length, heads, known->k);
+    lent_remember(&row);
+    hold(lfj_refusal(guarded_tick(known, record, &row, UINT32_C(0x80000000))) == LFJ_BAD_HEADS,
+         known->name, "an ended goal above the goal count");
+    heads[0].goal = 1;
+    heads[0].left = 1;
+    lent_remember(&row);
+    hold(lfj_refusal(guarded_tick(known, record, &row, 1)) == LFJ_BAD_HEADS, known->name,
+         "a goal that is on a head and has ended");
+    give_back(&row);
+}
+
+/* Runs a sample to its end, and some ticks more. */
+static void test_run(const struct known_run *known, const struct lent *record)
+{
+    struct lent row = lend(known->k * sizeof(struct lfj_head));
+    struct lfj_head *heads = (struct lfj_head *)(void *)row.bytes;
+    unsigned goals = lfj_goal_count(lfj_read(record->bytes, record->length));
+    uint32_t ended = 0;
+    unsigned listed = 0;
+    unsigned tick;
+    size_t i;
+    hold(lfj_start(record->bytes, record->length, heads, known->k) == 0, known->name, "lfj_start");
+    hold(lent_kept(&row, row.length), known->name, "lfj_start: bytes around are kept");
+    for (i = 0; i < known->k; i++)
+        hold(lfj_is_idle(heads[i]) && heads[i].left == 0, known->name, "lfj_start: an idle head");
+    lent_remember(&row);
+    for (tick = 1; listed < 4; tick++) {
+        hold((ended == lfj_all_goals(goals)) == (tick > known->last), known->name, "the last tick");
+        ended = lfj_ended(guarded_tick(known, record, &row, ended));
+        if (tick != known->after[listed].tick)
+            continue;
+        hold(ended == known->after[listed].ended, known->name, "lfj_tick: the ended goals");
+        for (i = 0; i < known->k; i++)
+            hold(heads[i].goal == known->after[listed].goals[i]
+                     && heads[i].left == known->after[listed].lefts[i], known->name,
+                 "lfj_tick: a head");
+        listed++;
+    }
+    give_back(&row);
+}
+
+/* 20 for a row of 0 or 9 heads, also without a row. */
+static void test_row_lengths(const struct lent *record)
+{
+    static const size_t lengths[] = {0, LFJ_HEADS_MAX + 1, 1000};
+    uint64_t refusal = refusal_word(LFJ_BAD_HEADS, 0);
+    size_t i;
+    for (i = 0; i < sizeof lengths / sizeof lengths[0]; i++) {
+        struct lent row = lend(lengths[i] * sizeof(struct lfj_head));
+        struct lfj_head *heads = (struct lfj_head *)(void *)row.bytes;
+        hold(lfj_start(record->bytes, record->length, heads, lengths[i]) == refusal
+                 && lfj_tick(record->bytes, record->length, heads, lengths[i], 0) == refusal
+                 && lent_kept(&row, 0), "a row", "of 0 or more than 8 heads");
+        give_back(&row);
+    }
+    hold(lfj_start(record->bytes, record->length, NULL, 0) == refusal
+             && lfj_tick(record->bytes, record->length, NULL, 0, 0) == refusal,
+         "a row", "of NULL and 0");
+}
+
 int main(int argc, char **argv)
 {
     struct lent long_mel;
@@ -325,6 +458,14 @@ int main(int argc, char **argv)
         if (i == 0)
             test_text_words(&record);
         hold(lent_kept(&record, 0), samples[i].name, "the record changed");
+        give_back(&record);
+    }
+    for (i = 0; i < RUNS; i++) {
+        struct lent record = read_sample(argv[1], runs[i].name);
+        test_run(&runs[i], &record);
+        test_refused_ticks(&runs[i], &record);
+        test_row_lengths(&record);
+        hold(lent_kept(&record, 0), runs[i].name, "the record changed");
         give_back(&record);
     }
     long_mel = read_sample(argv[1], "long-mel");

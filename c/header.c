@@ -31,6 +31,7 @@ static void test_answers(void)
          "an accepted read");
     hold(lfj_variable_count(64) == 64, "a variable count");
     hold(lfj_goal_set(after) == UINT32_C(0x80000001), "a set of goals");
+    hold(lfj_ended(after) == UINT32_C(0x80000001), "the set of ended goals");
     hold(lfj_refusal(refused) == LFJ_SHORT_BUFFER && lfj_place(refused) == 192127,
          "a refusal's place");
     hold(lfj_refusal(no_form) == LFJ_NO_FORM && lfj_place(no_form) == 0, "refusal 13");
@@ -54,6 +55,8 @@ static void test_sets(void)
     listed[63] = 1;
     hold(lfj_has_goal(goals, 1) && lfj_has_goal(goals, 32) && !lfj_has_goal(goals, 2)
              && !lfj_has_goal(goals, 0) && !lfj_has_goal(goals, 33), "the goals of a set");
+    hold(lfj_all_goals(1) == 1 && lfj_all_goals(31) == UINT32_C(0x7fffffff)
+             && lfj_all_goals(32) == UINT32_C(0xffffffff), "the set of all goals");
     hold(lfj_has_variable(variables, 0) && lfj_has_variable(variables, 63)
              && !lfj_has_variable(variables, 1) && !lfj_has_variable(variables, 64),
          "the variables of a set");
@@ -89,6 +92,7 @@ static const struct {
     {LFJ_BAD_GOAL_USE, 17, "met before"},
     {LFJ_BAD_GROUND_SET, 18, "ground set"},
     {LFJ_BAD_TICKS, 19, "ticks are"},
+    {LFJ_BAD_HEADS, 20, "1 to 8 heads"},
 };
 
 #define REFUSALS (sizeof refusals / sizeof refusals[0])
@@ -107,6 +111,18 @@ static void test_words(void)
          "the words of a refusal without halves");
 }
 
+static void test_heads(void)
+{
+    struct lfj_head heads[2] = {{0, 0}, {32, 60000}};
+    const unsigned char *bytes = (const unsigned char *)heads;
+    uint32_t goal;
+    uint32_t left;
+    memcpy(&goal, bytes + 8, sizeof goal);
+    memcpy(&left, bytes + 12, sizeof left);
+    hold(sizeof heads == 16 && goal == 32 && left == 60000, "the layout of a row of heads");
+    hold(lfj_is_idle(heads[0]) && !lfj_is_idle(heads[1]), "an idle head");
+}
+
 static void test_version(void)
 {
     char text[20];
@@ -119,6 +135,7 @@ int main(void)
     test_answers();
     test_sets();
     test_words();
+    test_heads();
     hold(LFJ_RECORD_MAX == 24 + LFJ_GOAL_MAX * (19 + 24) + 2 * 255, "the longest record");
     test_version();
     return wrong;

@@ -11,10 +11,10 @@ static int calls = 0;
 static int wrong = 0;
 
 /* What a function of the library sees of a pointer and the length beside it. */
-static void see(const char *name, const uint8_t *bytes, size_t length)
+static void see(const char *name, const void *lent, size_t length)
 {
-    if (bytes == NULL || length != 0) {
-        fprintf(stderr, "%s: %s\n", name, bytes == NULL ? "a null pointer" : "a length above 0");
+    if (lent == NULL || length != 0) {
+        fprintf(stderr, "%s: %s\n", name, lent == NULL ? "a null pointer" : "a length above 0");
         wrong = 1;
     }
 }
@@ -43,6 +43,8 @@ static void call_all(void)
     lfj_ground_sets(NULL, 0, wide);
     lfj_ticks(NULL, 0, narrow);
     lfj_listed(NULL, 0, wide);
+    lfj_start(NULL, 0, NULL, 0);
+    lfj_tick(NULL, 0, NULL, 0, 1);
 }
 
 #undef lfj_read
@@ -58,6 +60,8 @@ static void call_all(void)
 #undef lfj_ground_sets
 #undef lfj_ticks
 #undef lfj_listed
+#undef lfj_start
+#undef lfj_tick
 
 uint64_t lfj_read(const uint8_t *record, size_t n)
 {
@@ -127,11 +131,24 @@ uint64_t lfj_listed(const uint8_t *record, size_t n, uint64_t rows[LFJ_VARIABLE_
     return called("lfj_listed", record, n) + rows[0];
 }
 
+uint64_t lfj_start(const uint8_t *record, size_t n, struct lfj_head *heads, size_t k)
+{
+    see("lfj_start", heads, k);
+    return called("lfj_start", record, n);
+}
+
+uint64_t lfj_tick(const uint8_t *record, size_t n, struct lfj_head *heads, size_t k,
+                  uint32_t ended)
+{
+    see("lfj_tick", heads, k);
+    return called("lfj_tick", record, n) + ended;
+}
+
 int main(void)
 {
     call_all();
-    if (calls != 13) {
-        fprintf(stderr, "%d calls of 13 reached the library\n", calls);
+    if (calls != 15) {
+        fprintf(stderr, "%d calls of 15 reached the library\n", calls);
         wrong = 1;
     }
     return wrong;

@@ -20,10 +20,10 @@ out=target/c
 mkdir -p "$out"
 warnings="-Wall -Wextra -pedantic -Wconversion -Wshadow -Werror"
 
-# compiled NAME: builds c/NAME.c over the library
+# compiled NAME: builds c/NAME.c over the libraries
 compiled() {
-    $CC -std=c99 -O2 $warnings -Iinclude "c/$1.c" "$LFJ_LIB_DIR/liblfj.a" -o "$out/$1" ||
-        fail "c/$1.c does not compile"
+    $CC -std=c99 -O2 $warnings -Iinclude "c/$1.c" "$LFJ_LIB_DIR/liblfj.a" \
+        "$LFJ_LIB_DIR/liblfj_dispatch.a" -o "$out/$1" || fail "c/$1.c does not compile"
 }
 
 for std in c99 c11 c17; do
@@ -40,8 +40,8 @@ echo "lfj.h compiles as C and C++ without a warning, its helpers take answers ap
 
 compiled calls
 "$out/calls" samples || fail "a call of lfj.h is wrong"
-$CXX -std=c++11 $warnings -Iinclude -x c++ c/calls.c -x none "$LFJ_LIB_DIR/liblfj.a" \
-    -o "$out/calls-c++" || fail "c/calls.c does not compile as C++"
+$CXX -std=c++11 $warnings -Iinclude -x c++ c/calls.c -x none "$LFJ_LIB_DIR/liblfj_dispatch.a" \
+    "$LFJ_LIB_DIR/liblfj.a" -o "$out/calls-c++" || fail "c/calls.c does not compile as C++"
 "$out/calls-c++" samples || fail "a call of lfj.h from C++ is wrong"
 echo "every function answers and writes what the samples' descriptions say, from C and from C++"
 

@@ -470,7 +470,8 @@ static inline const char *lfj_refusal_words(uint64_t answer, const uint8_t *reco
  * function that is lent bytes stands for an inline function, which lends a byte of its
  * own where the length is 0 and then calls the library. The names are macros without
  * parameters: &lfj_read is a function's address as ever. After `#undef lfj_read` the
- * name is the library's own function again.
+ * name is the library's own function again. lfj_head has parameters, since a struct has
+ * that name too; &lfj_head is the library's own function, which is lent no null pointer.
  */
 
 /* `bytes`, or where their number is 0 a byte of our own. */
@@ -587,7 +588,7 @@ static inline uint64_t lfj_nullable_tick(const uint8_t *record, size_t n,
 #define lfj_mel lfj_nullable_mel
 #define lfj_goal_text lfj_nullable_goal_text
 #define lfj_check lfj_nullable_check
-#define lfj_head lfj_nullable_head
+#define lfj_head(record, n, head) lfj_nullable_head(record, n, head)
 #define lfj_goal_sets lfj_nullable_goal_sets
 #define lfj_ground_sets lfj_nullable_ground_sets
 #define lfj_ticks lfj_nullable_ticks
