@@ -50,9 +50,9 @@ pub struct Call {
 }
 
 /// The number of heads that a word says.
-fn heads(word: &String) -> Option<usize> {
-    let digit = Some(word).filter(|word| word.len() == 1)?;
-    digit.parse().ok().filter(|heads| (1..=HEADS_LIMIT).contains(heads))
+fn heads(word: &str) -> Option<usize> {
+    let heads = word.parse().ok()?;
+    (word.len() == 1 && (1..=HEADS_LIMIT).contains(&heads)).then_some(heads)
 }
 
 impl Command {
@@ -81,7 +81,7 @@ impl Command {
                     }
                     "--heads" => {
                         let limit = "--heads needs a number from 1 to 8";
-                        let number = words.next().and_then(heads);
+                        let number = words.next().and_then(|word| heads(word));
                         on = Some(number.ok_or_else(|| self.wrong(limit.into()))?);
                     }
                     _ => options.push(word.clone()),

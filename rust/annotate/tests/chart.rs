@@ -1,8 +1,11 @@
 //! The charts of runs: the text whole, what the SVG shows read back from its own elements, and
 //! runs too long for a column a tick.
 
+mod elements;
+
 use annotate::chart::Chart;
 use annotate::draw::chart::{svg, text};
+use elements::{attribute, elements, number};
 use lfj::Clause;
 
 /// Goals of these ticks, each after those that share a variable with it; the pairs are all listed.
@@ -119,29 +122,22 @@ fn the_text_shows_the_run_in_100_columns() {
     assert!(both[0] > 5 && both[1] > 5, "{both:?}");
 }
 
-/// An attribute of an element as a number.
-fn number(element: &str, name: &str) -> f64 {
-    let start = element.find(&format!(" {name}=\"")).expect(name) + name.len() + 3;
-    element[start..].split('"').next().unwrap().parse().expect(name)
-}
-
 #[test]
 fn each_goal_is_drawn_once_where_it_works() {
     for chart in charts() {
         let svg = svg(&chart);
         let width = number(&svg, "width");
         assert!(width < 1400.0 && number(&svg, "height") < 1400.0);
-        let element = |names: &str| {
-            let mut found = svg.lines().filter(|line| line.contains(names));
-            (found.next().expect(names), found.next())
-        };
-        let first = number(element("class=\"idle\"").0, "x");
-        let long = number(element("class=\"idle\"").0, "width");
-        let tick = long / f64::from(chart.last);
+        let idle = elements(&svg, "idle");
+        assert_eq!(idle.len(), chart.heads);
+        let first = number(idle[0], "x");
+        let tick = number(idle[0], "width") / f64::from(chart.last);
+        let drawn = elements(&svg, "work");
+        assert_eq!(drawn.len(), chart.goals.len());
         let mut rows = vec![Vec::new(); 8];
         for (goal, work) in (1..).zip(&chart.goals) {
-            let (rect, more) = element(&format!(" id=\"work-{goal}\""));
-            assert_eq!(more, None);
+            let id = format!("work-{goal}");
+            let rect = drawn.iter().find(|rect| attribute(rect, "id") == id).expect(&id);
             let near = |name: &str, wanted: f64| (number(rect, name) - wanted).abs() < 0.2;
             assert!(near("x", first + tick * f64::from(work.from - 1)), "{rect}");
             let wanted = tick * f64::from(work.ticks());

@@ -1,6 +1,9 @@
 //! The pictures: what is drawn, read back from the SVG's own elements, and the text whole.
 
+mod elements;
+
 use annotate::{draw, scene::Scene};
+use elements::{attribute, elements, number};
 use lfj::Expr;
 use std::collections::BTreeSet;
 
@@ -125,22 +128,6 @@ fn scenes() -> Vec<Scene> {
         scenes.push(scene_of_form(form.parse().unwrap()));
     }
     scenes
-}
-
-/// The elements of a class.
-fn elements<'a>(svg: &'a str, class: &str) -> Vec<&'a str> {
-    let class = format!(" class=\"{class}\"");
-    svg.lines().filter(|line| line.contains(&class)).collect()
-}
-
-fn attribute<'a>(element: &'a str, name: &str) -> &'a str {
-    let start = element.find(&format!(" {name}=\"")).expect(name) + name.len() + 3;
-    let length = element[start..].find('"').expect("a quote at its end");
-    &element[start..start + length]
-}
-
-fn number(element: &str, name: &str) -> f64 {
-    attribute(element, name).parse().expect(name)
 }
 
 /// Left, top, right, bottom.
