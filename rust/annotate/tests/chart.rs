@@ -158,6 +158,25 @@ fn each_goal_is_drawn_once_where_it_works() {
     }
 }
 
+/// The numbers of the axis: those of the small font that stand around their place.
+#[test]
+fn numbers_of_the_axis_stand_apart() {
+    for chart in charts() {
+        let svg = svg(&chart);
+        let small = |line: &&str| line.contains(" font-size=\"12\" text-anchor=\"middle\"");
+        let numbers: Vec<(f64, &str)> = svg
+            .lines()
+            .filter(small)
+            .map(|text| (number(text, "x"), text.split(['<', '>']).nth(2).unwrap()))
+            .collect();
+        assert!(numbers.len() >= 2 && numbers[0].1 == "0", "{numbers:?}");
+        for pair in numbers.windows(2) {
+            let letters = pair[0].1.len().max(pair[1].1.len()) as f64;
+            assert!(pair[1].0 - pair[0].0 > 12.0 * 0.64 * letters + 4.0, "{pair:?}");
+        }
+    }
+}
+
 /// Goals of a row stand one behind the other, unless one is too short to be seen.
 #[test]
 fn goals_do_not_overlap() {

@@ -47,7 +47,7 @@ impl Svg {
     pub fn write(&mut self, y: f64, text: &str, font: Font, width: f64) -> Size {
         let most = (width.max(TEXT_WIDTH) / font.advance()) as usize;
         let ends: fn(char) -> bool =
-            if font.mono { |sign| sign == ',' || sign == '&' } else { |sign| sign == ' ' };
+            if font.mono { |sign| matches!(sign, ' ' | ',' | '&') } else { |sign| sign == ' ' };
         let mut size = Size { width: 0.0, height: y };
         for line in lines(text, most, ends) {
             size.width = size.width.max(line.chars().count() as f64 * font.advance());

@@ -23,8 +23,8 @@ const GOALS: f64 = 30.0;
 const COLUMN: usize = 16;
 /// Between two columns of goals.
 const GUTTER: f64 = 40.0;
-/// Less room than this is too little between two numbers of the axis.
-const NUMBERS: f64 = 56.0;
+/// From the end of a number on the axis to the next at least.
+const NUMBERS: f64 = 14.0;
 
 const GRID: Pen = Pen { colour: "#d5d8dd", width: 1.0, dashed: false, head: false };
 const AXIS: Pen = Pen { colour: GREY, width: 1.2, dashed: false, head: false };
@@ -138,7 +138,8 @@ impl Page<'_> {
     /// The axis below the rows, with the ticks that end there, and the lines up from it.
     fn axis(&mut self, bottom: f64) {
         let bound = self.chart.bound;
-        let step = step(NUMBERS.min(TICK) / self.tick).max(1);
+        let number = bound.to_string().len() as f64 * WORDS.advance() + NUMBERS;
+        let step = step(number / self.tick);
         for tick in (0..=bound).step_by(step as usize) {
             let x = self.place(tick);
             self.vertical("class=\"grid\"", x, TOP, bottom + 4.0, GRID);
