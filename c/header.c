@@ -31,7 +31,8 @@ static void test_answers(void)
          "an accepted read");
     hold(lfj_variable_count(64) == 64, "a variable count");
     hold(lfj_goal_set(after) == UINT32_C(0x80000001), "a set of goals");
-    hold(lfj_ended(after) == UINT32_C(0x80000001), "the set of ended goals");
+    hold(lfj_ended(after) == UINT32_C(0x80000001) && lfj_ended(refused) == 0,
+         "the set of ended goals");
     hold(lfj_refusal(refused) == LFJ_SHORT_BUFFER && lfj_place(refused) == 192127,
          "a refusal's place");
     hold(lfj_refusal(no_form) == LFJ_NO_FORM && lfj_place(no_form) == 0, "refusal 13");

@@ -195,16 +195,14 @@ uint64_t lfj_listed(const uint8_t *record, size_t n, uint64_t rows[LFJ_VARIABLE_
  *     struct lfj_head heads[3];
  *     uint32_t all = lfj_all_goals(lfj_goal_count(lfj_read(record, n)));
  *     uint64_t answer = lfj_start(record, n, heads, 3);
- *     uint32_t ended = lfj_ended(answer);
  *     uint32_t ticks = 0;
- *     while (lfj_refusal(answer) == LFJ_ACCEPTED && ended != all) {
- *         answer = lfj_tick(record, n, heads, 3, ended);
- *         ended = lfj_ended(answer);
+ *     while (lfj_refusal(answer) == LFJ_ACCEPTED && lfj_ended(answer) != all) {
+ *         answer = lfj_tick(record, n, heads, 3, lfj_ended(answer));
  *         ticks++;
  *     }
  *
- * No tick of a run is refused. Any other may be: a refused call gives back no set, and must
- * not be stored over the caller's.
+ * No tick of a run is refused. Any other call may be: it gives back no set then, and what
+ * lfj_ended makes of its answer must not be stored over the caller's.
  */
 
 /*
@@ -286,10 +284,10 @@ static inline uint32_t lfj_goal_set(uint64_t answer)
     return (uint32_t)(answer & UINT64_C(0xffffffff));
 }
 
-/* Accepted by lfj_start or lfj_tick: the set of ended goals. A refusal has none. */
+/* Accepted by lfj_start or lfj_tick: the set of ended goals. A refusal has none, here 0. */
 static inline uint32_t lfj_ended(uint64_t answer)
 {
-    return lfj_goal_set(answer);
+    return lfj_refusal(answer) == LFJ_ACCEPTED ? lfj_goal_set(answer) : 0;
 }
 
 /* Accepted by lfj_form, lfj_form_length or lfj_mel: the length. */

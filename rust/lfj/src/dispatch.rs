@@ -24,7 +24,7 @@
 //! # Ok::<(), lfj::ClauseError>(())
 //! ```
 
-use crate::{Refusal, accepted, c, members};
+use crate::{Kind, Order, Refusal, accepted, c, members};
 
 /// The most heads of a row; the least is 1.
 pub const HEADS_LIMIT: usize = 8;
@@ -101,6 +101,65 @@ pub fn tick(record: &[u8], heads: &mut [Head], ended: u32) -> Result<u32, Refusa
     // are borrowed alone, written.
     let word = unsafe { c::lfj_tick(record.as_ptr(), record.len(), row, count, ended) };
     Ok(accepted(word)? as u32)
+}
+
+/// A refusal of [`start`] or [`tick`] in words, with what was lent: which head or goal 20 is about.
+/// The other refusals have the words of [`Refusal::words`].
+///
+/// ```
+/// use lfj::dispatch::{Head, tick, words};
+/// # let record = lfj::Clause::new(0).goal("a", []).record()?;
+/// // A clause of one goal, which has 1 tick.
+/// let mut heads = [Head::IDLE, Head { goal: 1, left: 2 }];
+/// let refusal = tick(&record, &mut heads, 0).unwrap_err();
+/// let said = "head 2 has 2 ticks left of goal 1; 1 to 1 is right (refusal 20)";
+/// assert_eq!(words(&refusal, &record, &heads, 0), said);
+/// # Ok::<(), lfj::ClauseError>(())
+/// ```
+pub fn words(refusal: &Refusal, record: &[u8], heads: &[Head], ended: u32) -> String {
+    let fault = match (refusal.kind(), crate::order(record), crate::facts(record)) {
+        (Kind::BadHeads, Ok(order), Ok(facts)) => fault(&order, &facts.ticks, heads, ended),
+        _ => None,
+    };
+    fault.map_or_else(|| refusal.words(record), |fault| format!("{fault} (refusal 20)"))
+}
+
+/// The first thing of a row and a set that 20 turns down.
+fn fault(order: &Order, ticks: &[u32], heads: &[Head], ended: u32) -> Option<String> {
+    let goals = order.goals;
+    if heads.is_empty() || heads.len() > HEADS_LIMIT {
+        return Some(format!("the row has {} heads; 1 to {HEADS_LIMIT} is right", heads.len()));
+    }
+    let waits_for = |goal| (1..goal).find(|i| order.before(*i, goal) && ended >> (i - 1) & 1 == 0);
+    for (Head { goal, left }, head) in heads.iter().zip(1..) {
+        let other = (1..).zip(&heads[..head - 1]).find(|(_, other)| other.goal == *goal);
+        let fault = match (*goal, other) {
+            (0, _) if *left == 0 => continue,
+            (0, _) => format!("is idle and has {left} ticks left; 0 is right"),
+            (_, _) if *goal > goals => format!("has goal {goal}; the clause has {goals}"),
+            (_, Some((other, _))) => format!("has goal {goal}, and so has head {other}"),
+            (_, None) if ended >> (goal - 1) & 1 == 1 => {
+                format!("has goal {goal}, which has ended")
+            }
+            (_, None) => match (ticks[*goal as usize - 1], waits_for(*goal)) {
+                (most, _) if !(1..=most).contains(left) => {
+                    format!("has {left} ticks left of goal {goal}; 1 to {most} is right")
+                }
+                (_, Some(before)) => {
+                    format!("has goal {goal}, which waits for goal {before}, which has not ended")
+                }
+                _ => continue,
+            },
+        };
+        return Some(format!("head {head} {fault}"));
+    }
+    members(ended).find_map(|goal| match waits_for(goal) {
+        _ if goal > goals => Some(format!("goal {goal} has ended; the clause has {goals}")),
+        Some(before) => {
+            Some(format!("goal {goal} has ended, and goal {before}, for which it waits, has not"))
+        }
+        None => None,
+    })
 }
 
 /// What the heads did in some ticks in a row, the same in each of them.
@@ -262,7 +321,7 @@ fn worked(before: &[Head], after: &[Head], ended: u32) -> Vec<u32> {
 }
 
 /// A heaviest chain of goals, the lowest from its end on, and its ticks.
-fn heaviest_chain(order: &crate::Order, ticks: &[u32]) -> (Vec<u32>, u32) {
+fn heaviest_chain(order: &Order, ticks: &[u32]) -> (Vec<u32>, u32) {
     // Of each goal the heaviest chain that ends with it. A goal waits for lower numbers alone.
     let mut chains: Vec<(Vec<u32>, u32)> = Vec::new();
     for (goal, ticks) in (1..=order.goals).zip(ticks) {

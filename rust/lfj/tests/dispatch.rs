@@ -3,7 +3,7 @@
 
 mod kit;
 
-use lfj::dispatch::{HEADS_LIMIT, Head, Run, Span, start, tick};
+use lfj::dispatch::{HEADS_LIMIT, Head, Run, Span, start, tick, words};
 use lfj::{Clause, Kind, members};
 
 /// What the rule asks of a clause: of each goal its predecessors, as a set, and its ticks.
@@ -189,47 +189,81 @@ fn a_refused_record_comes_first() {
     assert_eq!(Run::start(&record, 9).unwrap_err(), refusal);
 }
 
-/// Rows and sets, and whether a tick takes them.
+/// Rows and sets, and what is said of each that a tick refuses.
 #[test]
 fn rows_and_sets_that_a_tick_refuses() {
     let record = clause();
     let head = |goal, left| Head { goal, left };
     let idle = Head::IDLE;
-    let cases: [(&[Head], u32, bool); 21] = [
-        (&[idle, idle], 0, true),
-        (&[idle, head(1, 5)], 0, true),
-        (&[head(2, 6), head(1, 1)], 0, true),
-        (&[idle, idle], 0b1111, true),
-        (&[head(4, 8)], 0b0111, true),
-        // A goal above the goal count.
-        (&[head(5, 1)], 0, false),
-        (&[head(33, 1)], 0, false),
-        (&[head(u32::MAX, 1)], 0, false),
-        // On two heads, or ended.
-        (&[head(1, 5), head(1, 5)], 0, false),
-        (&[head(1, 5), idle, head(1, 4)], 0, false),
-        (&[head(1, 5)], 0b0001, false),
-        // Ticks left.
-        (&[head(1, 0)], 0, false),
-        (&[head(1, 6)], 0, false),
-        (&[head(1, u32::MAX)], 0, false),
-        (&[head(0, 1)], 0, false),
-        (&[head(1, 5), head(0, 5)], 0, false),
-        // An ended goal above the goal count.
-        (&[idle], 0b10000, false),
-        (&[idle], 1 << 31, false),
-        // A predecessor that has not ended.
-        (&[head(3, 7)], 0b0001, false),
-        (&[idle], 0b0100, false),
-        (&[idle], 0b1011, false),
+    let cases: [(&[Head], u32, &str); 22] = [
+        (&[idle, idle], 0, ""),
+        (&[idle, head(1, 5)], 0, ""),
+        (&[head(2, 6), head(1, 1)], 0, ""),
+        (&[idle, idle], 0b1111, ""),
+        (&[head(4, 8)], 0b0111, ""),
+        (&[idle; 9], 0, "the row has 9 heads; 1 to 8 is right"),
+        (&[head(5, 1)], 0, "head 1 has goal 5; the clause has 4"),
+        (&[idle, head(33, 1)], 0, "head 2 has goal 33; the clause has 4"),
+        (&[head(u32::MAX, 1)], 0, "head 1 has goal 4294967295; the clause has 4"),
+        (&[head(1, 5), head(1, 5)], 0, "head 2 has goal 1, and so has head 1"),
+        (&[idle, head(1, 5), head(1, 4)], 0, "head 3 has goal 1, and so has head 2"),
+        (&[head(1, 5)], 0b0001, "head 1 has goal 1, which has ended"),
+        (&[head(1, 0)], 0, "head 1 has 0 ticks left of goal 1; 1 to 5 is right"),
+        (&[head(1, 6)], 0, "head 1 has 6 ticks left of goal 1; 1 to 5 is right"),
+        (&[head(1, u32::MAX)], 0, "head 1 has 4294967295 ticks left of goal 1; 1 to 5 is right"),
+        (&[head(0, 1)], 0, "head 1 is idle and has 1 ticks left; 0 is right"),
+        (&[head(1, 5), head(0, 5)], 0, "head 2 is idle and has 5 ticks left; 0 is right"),
+        (&[idle], 0b10000, "goal 5 has ended; the clause has 4"),
+        (&[idle], 1 << 31, "goal 32 has ended; the clause has 4"),
+        (&[head(3, 7)], 1, "head 1 has goal 3, which waits for goal 2, which has not ended"),
+        (&[idle], 0b0100, "goal 3 has ended, and goal 1, for which it waits, has not"),
+        (&[idle], 0b1011, "goal 4 has ended, and goal 3, for which it waits, has not"),
     ];
-    for (row, ended, fine) in cases {
+    for (row, ended, said) in cases {
         let mut heads = row.to_vec();
         let answer = tick(&record, &mut heads, ended);
-        assert_eq!(answer.is_ok(), fine, "{row:?} {ended:b}");
+        assert_eq!(answer.is_ok(), said.is_empty(), "{row:?} {ended:b}");
         if let Err(refusal) = answer {
             assert_eq!((refusal.kind(), refusal.place), (Kind::BadHeads, 0));
             assert_eq!(heads, row);
+            assert_eq!(words(&refusal, &record, row, ended), format!("{said} (refusal 20)"));
         }
     }
+    let refusal = tick(&record[1..], &mut [], 0).unwrap_err();
+    assert_eq!(words(&refusal, &record[1..], &[], 0), refusal.to_string());
+}
+
+/// Numbers without pattern (SplitMix64).
+fn mixed(number: u64) -> u64 {
+    let mut mixed = number.wrapping_mul(0x9e37_79b9_7f4a_7c15);
+    mixed = (mixed ^ mixed >> 30).wrapping_mul(0xbf58_476d_1ce4_e5b9);
+    mixed = (mixed ^ mixed >> 27).wrapping_mul(0x94d0_49bb_1331_11eb);
+    mixed ^ mixed >> 31
+}
+
+/// A refused row has words of its own, whatever is wrong with it.
+#[test]
+fn every_refused_row_is_told() {
+    let record = clause();
+    let mut answers = [0; 2];
+    for seed in 0..20_000 {
+        let number = |place: u64, below: u64| mixed(16 * seed + place) % below;
+        let row: Vec<Head> = (0..1 + number(0, 3))
+            .map(|head| {
+                let (goal, left) = (number(1 + 2 * head, 6), number(2 + 2 * head, 9));
+                let idle = number(10 + head, 3) > 0 && goal % 2 == 0;
+                if idle { Head::IDLE } else { Head { goal: goal as u32, left: left as u32 } }
+            })
+            .collect();
+        let ended = [0, 0b1, 0b11, 0b111, number(14, 32) as u32][number(15, 5) as usize];
+        match tick(&record, &mut row.clone(), ended) {
+            Ok(_) => answers[0] += 1,
+            Err(refusal) => {
+                let said = words(&refusal, &record, &row, ended);
+                assert_ne!(said, refusal.to_string(), "{row:?} {ended:b}");
+                answers[1] += 1;
+            }
+        }
+    }
+    assert!(answers[0] > 500 && answers[1] > 500, "{answers:?}");
 }
