@@ -351,43 +351,55 @@ static const struct known_run runs[] = {
 
 #define RUNS (sizeof runs / sizeof runs[0])
 
-/* Calls a tick on a guarded row. Accepted, the set; refused, by 20, and the row has to stay. */
-static uint64_t guarded_tick(const struct known_run *known, const struct lent *record,
-                             struct lent *row, uint32_t ended)
+/* Calls a tick on a guarded row. Where it is refused, by 20, the row has to stay. */
+static uint64_t guarded_tick(const char *name, const struct lent *record, struct lent *row,
+                             uint32_t ended)
 {
     struct lfj_head *heads = (struct lfj_head *)(void *)row->bytes;
-    uint64_t answer = lfj_tick(record->bytes, record->length, heads, known->k, ended);
+    size_t k = row->length / sizeof *heads;
+    uint64_t answer = lfj_tick(record->bytes, record->length, heads, k, ended);
     int refused = lfj_refusal(answer) != LFJ_ACCEPTED;
-    hold(lent_kept(row, refused ? 0 : row->length), known->name, "a tick changed what had to stay");
-    hold(!refused || answer == refusal_word(LFJ_BAD_HEADS, 0), known->name, "another refusal");
+    hold(lent_kept(row, refused ? 0 : row->length), name, "a tick changed what had to stay");
+    hold(!refused || answer == refusal_word(LFJ_BAD_HEADS, 0), name, "another refusal");
     lent_remember(row);
     return answer;
 }
 
-/* Rows and sets that no tick takes, made of one that it takes. */
-static void test_refused_ticks(const struct known_run *known, const struct lent *record)
+/* Rows of two heads and sets of ended goals of the sample side-by-side, and whether a tick takes
+ * them. Goal 2 waits for goal 1; they and goal 6 have 2, 6 and 7 ticks. */
+static const struct {
+    struct lfj_head heads[2];
+    uint32_t ended;
+    int taken;
+    const char *what;
+} states[] = {
+    {{{0, 0}, {0, 0}}, 0, 1, "idle heads beside goals that are free"},
+    {{{1, 2}, {6, 7}}, 0, 1, "busy heads"},
+    {{{2, 6}, {0, 0}}, 1, 1, "a busy goal whose predecessor has ended"},
+    {{{0, 0}, {0, 0}}, 127, 1, "all goals have ended"},
+    {{{8, 1}, {0, 0}}, 0, 0, "a head's goal above the goal count"},
+    {{{6, 1}, {6, 1}}, 0, 0, "a goal on two heads"},
+    {{{0, 0}, {6, 1}}, 32, 0, "a head's goal that has ended"},
+    {{{0, 0}, {1, 0}}, 0, 0, "a busy head without ticks left"},
+    {{{1, 3}, {0, 0}}, 0, 0, "more ticks left than the goal's"},
+    {{{0, 0}, {0, 1}}, 0, 0, "an idle head with ticks left"},
+    {{{0, 0}, {0, 0}}, 128, 0, "an ended goal above the goal count"},
+    {{{2, 6}, {0, 0}}, 0, 0, "a busy goal whose predecessor has not ended"},
+    {{{0, 0}, {0, 0}}, 2, 0, "an ended goal whose predecessor has not ended"},
+};
+
+#define STATES (sizeof states / sizeof states[0])
+
+static void test_states(const struct lent *record)
 {
-    struct lent row = lend(known->k * sizeof(struct lfj_head));
-    struct lfj_head *heads = (struct lfj_head *)(void *)row.bytes;
-    static const struct lfj_head wrong_heads[] = {{33, 1}, {1, 0}, {1, 60001}, {0, 1}};
     size_t i;
-    for (i = 0; i < sizeof wrong_heads / sizeof wrong_heads[0]; i++) {
-        lfj_start(record->bytes, record->length, heads, known->k);
-        heads[known->k - 1] = wrong_heads[i];
-        lent_remember(&row);
-        hold(lfj_refusal(guarded_tick(known, record, &row, 0)) == LFJ_BAD_HEADS, known->name,
-             "a head that is wrong");
+    for (i = 0; i < STATES; i++) {
+        struct lent row = lend_bytes((const uint8_t *)states[i].heads, sizeof states[i].heads);
+        uint64_t answer = guarded_tick(states[i].what, record, &row, states[i].ended);
+        hold((lfj_refusal(answer) == LFJ_ACCEPTED) == states[i].taken, "side-by-side",
+             states[i].what);
+        give_back(&row);
     }
-    lfj_start(record->bytes, record->length, heads, known->k);
-    lent_remember(&row);
-    hold(lfj_refusal(guarded_tick(known, record, &row, UINT32_C(0x80000000))) == LFJ_BAD_HEADS,
-         known->name, "an ended goal above the goal count");
-    heads[0].goal = 1;
-    heads[0].left = 1;
-    lent_remember(&row);
-    hold(lfj_refusal(guarded_tick(known, record, &row, 1)) == LFJ_BAD_HEADS, known->name,
-         "a goal that is on a head and has ended");
-    give_back(&row);
 }
 
 /* Runs a sample to its end, and some ticks more. */
@@ -407,7 +419,7 @@ static void test_run(const struct known_run *known, const struct lent *record)
     lent_remember(&row);
     for (tick = 1; listed < 4; tick++) {
         hold((ended == lfj_all_goals(goals)) == (tick > known->last), known->name, "the last tick");
-        ended = lfj_ended(guarded_tick(known, record, &row, ended));
+        ended = lfj_ended(guarded_tick(known->name, record, &row, ended));
         if (tick != known->after[listed].tick)
             continue;
         hold(ended == known->after[listed].ended, known->name, "lfj_tick: the ended goals");
@@ -429,6 +441,8 @@ static void test_row_lengths(const struct lent *record)
     for (i = 0; i < sizeof lengths / sizeof lengths[0]; i++) {
         struct lent row = lend(lengths[i] * sizeof(struct lfj_head));
         struct lfj_head *heads = (struct lfj_head *)(void *)row.bytes;
+        memset(row.bytes, 0, row.length);
+        lent_remember(&row);
         hold(lfj_start(record->bytes, record->length, heads, lengths[i]) == refusal
                  && lfj_tick(record->bytes, record->length, heads, lengths[i], 0) == refusal
                  && lent_kept(&row, 0), "a row", "of 0 or more than 8 heads");
@@ -441,7 +455,7 @@ static void test_row_lengths(const struct lent *record)
 
 int main(int argc, char **argv)
 {
-    struct lent long_mel;
+    struct lent special;
     size_t i;
     if (argc != 2) {
         fputs("usage: calls FOLDER     the folder of the samples\n", stderr);
@@ -463,13 +477,15 @@ int main(int argc, char **argv)
     for (i = 0; i < RUNS; i++) {
         struct lent record = read_sample(argv[1], runs[i].name);
         test_run(&runs[i], &record);
-        test_refused_ticks(&runs[i], &record);
         test_row_lengths(&record);
         hold(lent_kept(&record, 0), runs[i].name, "the record changed");
         give_back(&record);
     }
-    long_mel = read_sample(argv[1], "long-mel");
-    test_long_mel(&long_mel);
-    give_back(&long_mel);
+    special = read_sample(argv[1], "side-by-side");
+    test_states(&special);
+    give_back(&special);
+    special = read_sample(argv[1], "long-mel");
+    test_long_mel(&special);
+    give_back(&special);
     return wrong;
 }
