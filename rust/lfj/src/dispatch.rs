@@ -211,7 +211,8 @@ impl Run {
     ///
     /// Refusal 20 if they are 0 or more than [`HEADS_LIMIT`].
     pub fn start(record: &[u8], heads: usize) -> Result<Run, Refusal> {
-        let mut heads = vec![Head::IDLE; heads];
+        // One head too many is refused like any number of them, and takes no room.
+        let mut heads = vec![Head::IDLE; heads.min(HEADS_LIMIT + 1)];
         let ended = start(record, &mut heads)?;
         let (order, facts) = (crate::order(record)?, crate::facts(record)?);
         let (chain_goals, chain_ticks) = heaviest_chain(&order, &facts.ticks);
@@ -262,7 +263,7 @@ impl Run {
         &self.chain_goals
     }
 
-    /// No run on so many heads takes longer: with k heads k * T is at most W + (k - 1) * C.
+    /// T is at most this: with k heads k * T is at most W + (k - 1) * C.
     pub fn bound(&self) -> u32 {
         let heads = self.heads.len() as u32;
         (self.total_ticks + (heads - 1) * self.chain_ticks) / heads

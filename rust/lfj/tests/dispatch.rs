@@ -173,6 +173,7 @@ fn rows_of_0_and_9_heads() {
         assert_eq!(heads, vec![Head { goal: 1, left: 1 }; count]);
         assert_eq!(Run::start(&record, count).unwrap_err().kind(), Kind::BadHeads);
     }
+    assert_eq!(Run::start(&record, usize::MAX).unwrap_err().kind(), Kind::BadHeads);
 }
 
 #[test]
