@@ -218,12 +218,12 @@ static void answer_sheet(struct text *out, const struct lent *input, const char 
 /* A row of k heads to be lent. */
 static struct lent lend_row(size_t k)
 {
-    return lend(k * sizeof(struct lfj_head));
+    return lend(k * sizeof(struct lfj_row_head));
 }
 
-static struct lfj_head *heads_of(const struct lent *row)
+static struct lfj_row_head *heads_of(const struct lent *row)
 {
-    return (struct lfj_head *)(void *)row->bytes;
+    return (struct lfj_row_head *)(void *)row->bytes;
 }
 
 /* Holds the row against the answer: one that is refused has to leave it as it was. */

@@ -200,7 +200,7 @@ static void hold_refused(const char *name, const uint8_t *record, size_t n, uint
     struct lent lent = lend(LFJ_VARIABLE_MAX * sizeof(uint64_t));
     uint32_t *narrow = (uint32_t *)(void *)lent.bytes;
     uint64_t *wide = (uint64_t *)(void *)lent.bytes;
-    struct lfj_head *heads = (struct lfj_head *)(void *)lent.bytes;
+    struct lfj_row_head *heads = (struct lfj_row_head *)(void *)lent.bytes;
     const uint8_t one = '1';
     size_t k;
     hold(lfj_read(record, n) == refusal, name, "lfj_read");
@@ -355,7 +355,7 @@ static const struct known_run runs[] = {
 static uint64_t guarded_tick(const char *name, const struct lent *record, struct lent *row,
                              uint32_t ended)
 {
-    struct lfj_head *heads = (struct lfj_head *)(void *)row->bytes;
+    struct lfj_row_head *heads = (struct lfj_row_head *)(void *)row->bytes;
     size_t k = row->length / sizeof *heads;
     uint64_t answer = lfj_tick(record->bytes, record->length, heads, k, ended);
     int refused = lfj_refusal(answer) != LFJ_ACCEPTED;
@@ -368,7 +368,7 @@ static uint64_t guarded_tick(const char *name, const struct lent *record, struct
 /* Rows of two heads and sets of ended goals of the sample side-by-side, and whether a tick takes
  * them. Goal 2 waits for goal 1; they and goal 6 have 2, 6 and 7 ticks. */
 static const struct {
-    struct lfj_head heads[2];
+    struct lfj_row_head heads[2];
     uint32_t ended;
     int taken;
     const char *what;
@@ -405,8 +405,8 @@ static void test_states(const struct lent *record)
 /* Runs a sample to its end, and some ticks more. */
 static void test_run(const struct known_run *known, const struct lent *record)
 {
-    struct lent row = lend(known->k * sizeof(struct lfj_head));
-    struct lfj_head *heads = (struct lfj_head *)(void *)row.bytes;
+    struct lent row = lend(known->k * sizeof(struct lfj_row_head));
+    struct lfj_row_head *heads = (struct lfj_row_head *)(void *)row.bytes;
     unsigned goals = lfj_goal_count(lfj_read(record->bytes, record->length));
     uint32_t ended = 0;
     unsigned listed = 0;
@@ -439,8 +439,8 @@ static void test_row_lengths(const struct lent *record)
     uint64_t refusal = refusal_word(LFJ_BAD_HEADS, 0);
     size_t i;
     for (i = 0; i < sizeof lengths / sizeof lengths[0]; i++) {
-        struct lent row = lend(lengths[i] * sizeof(struct lfj_head));
-        struct lfj_head *heads = (struct lfj_head *)(void *)row.bytes;
+        struct lent row = lend(lengths[i] * sizeof(struct lfj_row_head));
+        struct lfj_row_head *heads = (struct lfj_row_head *)(void *)row.bytes;
         memset(row.bytes, 0, row.length);
         lent_remember(&row);
         hold(lfj_start(record->bytes, record->length, heads, lengths[i]) == refusal

@@ -114,7 +114,7 @@ static void test_words(void)
 
 static void test_heads(void)
 {
-    struct lfj_head heads[2] = {{0, 0}, {32, 60000}};
+    struct lfj_row_head heads[2] = {{0, 0}, {32, 60000}};
     const unsigned char *bytes = (const unsigned char *)heads;
     uint32_t goal;
     uint32_t left;

@@ -131,13 +131,13 @@ uint64_t lfj_listed(const uint8_t *record, size_t n, uint64_t rows[LFJ_VARIABLE_
     return called("lfj_listed", record, n) + rows[0];
 }
 
-uint64_t lfj_start(const uint8_t *record, size_t n, struct lfj_head *heads, size_t k)
+uint64_t lfj_start(const uint8_t *record, size_t n, struct lfj_row_head *heads, size_t k)
 {
     see("lfj_start", heads, k);
     return called("lfj_start", record, n);
 }
 
-uint64_t lfj_tick(const uint8_t *record, size_t n, struct lfj_head *heads, size_t k,
+uint64_t lfj_tick(const uint8_t *record, size_t n, struct lfj_row_head *heads, size_t k,
                   uint32_t ended)
 {
     see("lfj_tick", heads, k);

@@ -192,7 +192,7 @@ uint64_t lfj_listed(const uint8_t *record, size_t n, uint64_t rows[LFJ_VARIABLE_
  *
  * A run on three heads, from a start until all goals have ended:
  *
- *     struct lfj_head heads[3];
+ *     struct lfj_row_head heads[3];
  *     uint32_t all = lfj_all_goals(lfj_goal_count(lfj_read(record, n)));
  *     uint64_t answer = lfj_start(record, n, heads, 3);
  *     uint32_t ticks = 0;
@@ -209,19 +209,19 @@ uint64_t lfj_listed(const uint8_t *record, size_t n, uint64_t rows[LFJ_VARIABLE_
  * A head: its goal, from 1, and the ticks that the goal still has. An idle head has zeros.
  * 8 bytes, the goal at 0 and the ticks left at 4, alignment 4.
  */
-struct lfj_head {
+struct lfj_row_head {
     uint32_t goal;
     uint32_t left;
 };
 
 /* The layout that the library has: an array of negative length does not compile. */
-struct lfj_head_alignment {
+struct lfj_row_head_alignment {
     char one;
-    struct lfj_head head;
+    struct lfj_row_head head;
 };
-typedef char lfj_head_layout[sizeof(struct lfj_head) == 8 && offsetof(struct lfj_head, goal) == 0
-                                     && offsetof(struct lfj_head, left) == 4
-                                     && offsetof(struct lfj_head_alignment, head) == 4
+typedef char lfj_row_head_layout[sizeof(struct lfj_row_head) == 8 && offsetof(struct lfj_row_head, goal) == 0
+                                     && offsetof(struct lfj_row_head, left) == 4
+                                     && offsetof(struct lfj_row_head_alignment, head) == 4
                                  ? 1
                                  : -1];
 
@@ -229,7 +229,7 @@ typedef char lfj_head_layout[sizeof(struct lfj_head) == 8 && offsetof(struct lfj
  * A start: makes all k heads idle, whatever they held. Accepted: 0, no goal has ended.
  * Refused by 20 if k is 0 or above LFJ_HEADS_MAX.
  */
-uint64_t lfj_start(const uint8_t *record, size_t n, struct lfj_head *heads, size_t k);
+uint64_t lfj_start(const uint8_t *record, size_t n, struct lfj_row_head *heads, size_t k);
 
 /*
  * One tick, given the row and the set of ended goals that the start or tick before left.
@@ -240,7 +240,7 @@ uint64_t lfj_start(const uint8_t *record, size_t n, struct lfj_head *heads, size
  * 0 on an idle one; if an ended goal is above the goal count; or if a busy or ended goal has
  * a predecessor that has not ended.
  */
-uint64_t lfj_tick(const uint8_t *record, size_t n, struct lfj_head *heads, size_t k,
+uint64_t lfj_tick(const uint8_t *record, size_t n, struct lfj_row_head *heads, size_t k,
                   uint32_t ended);
 
 /* ---- Taking an answer apart ---- */
@@ -341,7 +341,7 @@ static inline uint32_t lfj_all_goals(unsigned goals)
 }
 
 /* Is the head idle? */
-static inline int lfj_is_idle(struct lfj_head head)
+static inline int lfj_is_idle(struct lfj_row_head head)
 {
     return head.goal == 0;
 }
@@ -468,8 +468,7 @@ static inline const char *lfj_refusal_words(uint64_t answer, const uint8_t *reco
  * function that is lent bytes stands for an inline function, which lends a byte of its
  * own where the length is 0 and then calls the library. The names are macros without
  * parameters: &lfj_read is a function's address as ever. After `#undef lfj_read` the
- * name is the library's own function again. lfj_head has parameters, since a struct has
- * that name too; &lfj_head is the library's own function, which is lent no null pointer.
+ * name is the library's own function again.
  */
 
 /* `bytes`, or where their number is 0 a byte of our own. */
@@ -487,9 +486,9 @@ static inline uint8_t *lfj_lent_room(uint8_t *out, size_t room)
 }
 
 /* The same of a row of heads. */
-static inline struct lfj_head *lfj_lent_heads(struct lfj_head *heads, size_t k)
+static inline struct lfj_row_head *lfj_lent_heads(struct lfj_row_head *heads, size_t k)
 {
-    static struct lfj_head none = {0, 0};
+    static struct lfj_row_head none = {0, 0};
     return k != 0 ? heads : &none;
 }
 
@@ -567,13 +566,13 @@ static inline uint64_t lfj_nullable_listed(const uint8_t *record, size_t n,
 }
 
 static inline uint64_t lfj_nullable_start(const uint8_t *record, size_t n,
-                                          struct lfj_head *heads, size_t k)
+                                          struct lfj_row_head *heads, size_t k)
 {
     return lfj_start(lfj_lent(record, n), n, lfj_lent_heads(heads, k), k);
 }
 
 static inline uint64_t lfj_nullable_tick(const uint8_t *record, size_t n,
-                                         struct lfj_head *heads, size_t k, uint32_t ended)
+                                         struct lfj_row_head *heads, size_t k, uint32_t ended)
 {
     return lfj_tick(lfj_lent(record, n), n, lfj_lent_heads(heads, k), k, ended);
 }
@@ -586,7 +585,7 @@ static inline uint64_t lfj_nullable_tick(const uint8_t *record, size_t n,
 #define lfj_mel lfj_nullable_mel
 #define lfj_goal_text lfj_nullable_goal_text
 #define lfj_check lfj_nullable_check
-#define lfj_head(record, n, head) lfj_nullable_head(record, n, head)
+#define lfj_head lfj_nullable_head
 #define lfj_goal_sets lfj_nullable_goal_sets
 #define lfj_ground_sets lfj_nullable_ground_sets
 #define lfj_ticks lfj_nullable_ticks
