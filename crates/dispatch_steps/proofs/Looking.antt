@@ -51,14 +51,12 @@ module _ (p : Plan) where
   pub record Looked (hs : List Head) (b : Board) : Type 0 where
     pub heads : sweepHeads p hs b ≡ hs
     pub done : sweepBoard p hs b .done ≡ b .done
-    pub number : sweepBoard p hs b .number ≡ b .number
-    pub place : sweepBoard p hs b .place ≡ b .place
     pub good : lookAll hs b ≡ true → sweepBoard p hs b .phase ≡ looking
     pub bad : lookAll hs b ≡ false → sweepBoard p hs b .phase ≡ resting
 
   pub look-sweep : (hs : List Head) (b : Board) → b .phase ≡ looking → Looked hs b
   unfolding sweepHeads sweepBoard
-  look-sweep [] b e = record { heads = refl; done = refl; number = refl; place = refl; good = λ u. e; bad = λ u. absurd (true≢false u) }
+  look-sweep [] b e = record { heads = refl; done = refl; good = λ u. e; bad = λ u. absurd (true≢false u) }
   look-sweep (h ∷ hs) b e =
       let c = lookOf h b p in
       let s = step-looks h b p e in
@@ -71,8 +69,6 @@ module _ (p : Plan) where
       record {
         heads = row ∙ ap (λ l. h ∷ l) (r .heads);
         done = ap (λ (x : Board). x .done) to ∙ r .done;
-        number = ap (λ (x : Board). x .number) to ∙ r .number;
-        place = ap (λ (x : Board). x .place) to ∙ r .place;
         good = λ u. ap (λ (x : Board). x .phase) to ∙ r .good (sym k ∙ u);
         bad = λ u. ap (λ (x : Board). x .phase) to ∙ r .bad (sym k ∙ u);
       })
@@ -82,8 +78,6 @@ module _ (p : Plan) where
       record {
         heads = row ∙ ap (λ l. h ∷ l) (r .0);
         done = ap (λ (x : Board). x .done) (to ∙ r .1);
-        number = ap (λ (x : Board). x .number) (to ∙ r .1);
-        place = ap (λ (x : Board). x .place) (to ∙ r .1);
         good = λ u. absurd (true≢false (sym u ∙ ap (λ x. x && lookAll hs c) f));
         bad = λ u. ap (λ (x : Board). x .phase) (to ∙ r .1) ∙ q;
       })

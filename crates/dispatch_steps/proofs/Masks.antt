@@ -88,11 +88,11 @@ module _ (h : Head) (b : Board) (p : Plan) where
           ∙ ap (λ x. x && leb (h .left) (ofGoal (p .ticks) (h .goal))) (le-leb 1 (h .left) (omega arith)))
 
   pub looked : (ok : Bool) (phase one free : ℕ) → ok ≡ isFine b p h → phase ≡ cond ok (b .phase) resting → one ≡ alone (h .goal) → free ≡ without (b .free) one
-      → _≡_ {A = Board} (record { phase = phase; free = free; done = b .done; number = b .number; place = b .place }) (lookOf h b p)
+      → _≡_ {A = Board} (record { phase = phase; free = free; done = b .done }) (lookOf h b p)
   looked ok phase one free e q r s =
       let q′ : phase ≡ cond (isFine b p h) (b .phase) resting = q ∙ ap (λ x. cond x (b .phase) resting) e in
       let s′ : free ≡ without (b .free) (alone (h .goal)) = s ∙ ap (without (b .free)) r in
-      λ i. record { phase = q′ i; free = s′ i; done = b .done; number = b .number; place = b .place }
+      λ i. record { phase = q′ i; free = s′ i; done = b .done }
 
   abbrev lowest-free : ℕ
   lowest-free = lowest (hasGoal (b .free)) goalLimit
@@ -113,12 +113,12 @@ module _ (h : Head) (b : Board) (p : Plan) where
   taking-new g e f z = ap (λ (x : ℕ). record { goal = g; left = x }) (of-goal (p .ticks) g (omega arith)) ∙ (ap fresh f ∙ sym (taking-idle e))
 
   pub gone : (k : Head) (one free done : ℕ) (head : Head) → k ≡ taking h b p → one ≡ alone (k .goal) → free ≡ without (b .free) one → done ≡ finishing k (b .done) → head ≡ worked k
-      → _≡_ {A = Stepped} (record { head = head; board = record { phase = b .phase; free = free; done = done; number = b .number; place = b .place } }) (goOf h b p)
+      → _≡_ {A = Stepped} (record { head = head; board = record { phase = b .phase; free = free; done = done } }) (goOf h b p)
   gone k one free done head e q r s t =
       let r′ : free ≡ without (b .free) (alone (taking h b p .goal)) = r ∙ ap (without (b .free)) (q ∙ ap (λ (x : Head). alone (x .goal)) e) in
       let s′ : done ≡ finishing (taking h b p) (b .done) = s ∙ ap (λ x. finishing x (b .done)) e in
       let t′ : head ≡ worked (taking h b p) = t ∙ ap worked e in
-      λ i. record { head = t′ i; board = record { phase = b .phase; free = r′ i; done = s′ i; number = b .number; place = b .place } }
+      λ i. record { head = t′ i; board = record { phase = b .phase; free = r′ i; done = s′ i } }
 
   -- ---- which turn it is
   abbrev looks : Stepped
@@ -166,9 +166,9 @@ rest-same h phase e = sym (ap (λ x. cond x idle h) (ne-eqb phase idling e))
 -- ---- between the two times
 module _ (b : Board) where
   abbrev onward : Bool → Board
-  onward x = record { phase = cond x going (b .phase); free = b .free; done = b .done; number = b .number; place = b .place }
+  onward x = record { phase = cond x going (b .phase); free = b .free; done = b .done }
 
-  pub second-goes : b .phase ≡ looking → _≡_ {A = Board} (record { phase = going; free = b .free; done = b .done; number = b .number; place = b .place }) (secondOf b)
+  pub second-goes : b .phase ≡ looking → _≡_ {A = Board} (record { phase = going; free = b .free; done = b .done }) (secondOf b)
   unfolding secondOf
   second-goes e = sym (ap onward (eq-eqb (b .phase) looking e))
 

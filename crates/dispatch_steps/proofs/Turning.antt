@@ -98,8 +98,6 @@ module _ (o : Opening) (hs : List Head) where
 
       pub record Refused : Type 0 where
         pub phase : turnBoard o hs .phase ≡ resting
-        pub number : turnBoard o hs .number ≡ b .number
-        pub place : turnBoard o hs .place ≡ b .place
         pub heads : turnHeads o hs ≡ hs
 
       -- the ended goals are judged before the row is
@@ -114,8 +112,6 @@ module _ (o : Opening) (hs : List Head) where
           let k : sweepBoard p (sweepHeads p hs b) (secondOf c) ≡ c = ap (sweepBoard p (sweepHeads p hs b)) s ∙ r .1 in
           record {
             phase = ap (λ (x : Board). x .phase) k ∙ q;
-            number = ap (λ (x : Board). x .number) k ∙ l .number;
-            place = ap (λ (x : Board). x .place) k ∙ l .place;
             heads = ap (sweepHeads p (sweepHeads p hs b)) s ∙ (r .0 ∙ l .heads);
           }
         where

@@ -53,8 +53,6 @@ lookOf h b p =
       phase = cond (isFine b p h) (b .phase) resting;
       free = without (b .free) (alone (h .goal));
       done = b .done;
-      number = b .number;
-      place = b .place;
     }
 
 -- ---- a head takes a goal, if it is idle, and works
@@ -75,8 +73,6 @@ goOf h b p =
             phase = b .phase;
             free = without (b .free) (alone (taking h b p .goal));
             done = finishing (taking h b p) (b .done);
-            number = b .number;
-            place = b .place;
           };
     }
 
@@ -101,7 +97,7 @@ sweepBoard p (h ∷ hs) b = sweepBoard p hs (stepOf h b p .board)
 
 -- ---- a row gone over twice
 unfoldable pub secondOf : Board → Board
-secondOf b = record { phase = cond (eqb (b .phase) looking) going (b .phase); free = b .free; done = b .done; number = b .number; place = b .place }
+secondOf b = record { phase = cond (eqb (b .phase) looking) going (b .phase); free = b .free; done = b .done }
 
 unfoldable pub turnHeads : Opening → List Head → List Head
 turnHeads o hs = sweepHeads (o .plan) (sweepHeads (o .plan) hs (o .board)) (secondOf (sweepBoard (o .plan) hs (o .board)))

@@ -2,6 +2,7 @@
 // it is idle, and works. Both are one pass over the row each: what a head's work changes, no later head's taking reads.
 use dispatch_rule::Head;
 use graph::Graph;
+use record_rules::Refusal;
 ghost use mathlib.Core.Path.{_≡_};
 ghost use mathlib.Core.Bool.{cond};
 ghost use Prim.Native.Nat.{_≤_};
@@ -32,15 +33,13 @@ pub struct Board {
     pub free: u32,
     // The goals that have ended.
     pub done: u32,
-    // The refusal, if something is refused.
-    pub number: u8,
-    pub place: usize,
 }
 
-// What a tick or a start begins with.
+// What a tick or a start begins with; the refusal is the answer if the heads rest.
 pub struct Opening {
     pub board: Board,
     pub plan: Plan,
+    pub refusal: Refusal,
 }
 
 pub struct Stepped {

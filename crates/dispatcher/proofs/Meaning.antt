@@ -9,7 +9,7 @@ use lib.Dec.{eqb, ltb, leb}
 use lib.ListN.{length, getD}
 use borrow.Author.Tests.{lt-ltb, ltb-true, le-leb, leb-true}
 use Rattle.logic.specs.Quantifiers.{every, someBelow}
-use Rattle.logic.proofs.Bools.{test, iff, is-false, clash, and-l, and-r, and-i, or-r, not-i, not-true, or-elim}
+use Rattle.logic.proofs.Bools.{test, iff, is-false, clash, and-l, and-r, and-i, or-r, not-i, not-true, or-elim, implies-in, implies-out}
 use Rattle.logic.proofs.Quantifiers.{below-in, below-out}
 use Rattle.logic.proofs.Table.{table-at}
 use Rattle.sets.specs.Sets.{goalLimit, has, without, below, subset, setOf}
@@ -21,6 +21,7 @@ use Rattle.graph.proofs.Goals.{goal-none}
 use Rattle.graph.proofs.Rows.{goals-ext, row-in, row-out}
 use Rattle.record_fields.specs.Facts.{ticksAt}
 use Rattle.record_fields.specs.Fields.{goalCount}
+use Rattle.record_rules.specs.declared.Refusal.{Refusal}
 use Rattle.record_rules.specs.declared.Reading.{Reading}
 use Rattle.record_rules.specs.declared.Reading.the-variants.{Fine, Refused}
 use Rattle.record_rules.specs.Outcome.{Outcome, refused, accepted, started, readThen, onlyIf}
@@ -29,8 +30,10 @@ use Rattle.record.specs.WellFormed.{WellFormed}
 use Rattle.record.proofs.WellFormed.{fine-well-formed}
 use Rattle.record.proofs.Facts.{ticks-range}
 use Rattle.clause.specs.Clause.{goalTicks}
-use Rattle.order.specs.Order.{before, order}
-use Rattle.order.proofs.Theorems.{before-order}
+use Rattle.graph.specs.Closure.{wait, link}
+use Rattle.order.specs.Order.{waits, Before, before}
+use Rattle.order.specs.Arrays.{waiting}
+use Rattle.order.proofs.Theorems.{before-is, before-goals, before-order}
 use Rattle.lfj_words.specs.Words.{refusalWord, tickWord}
 use Rattle.schedule.specs.Range.{Goals, Order, each}
 use Rattle.schedule.proofs.Range.{each-at, each-all}
@@ -45,8 +48,28 @@ use Rattle.dispatch_steps.specs.Steps.{stateOf, looking, going, resting, idling
 use Rattle.dispatch_steps.proofs.Free.{Free, Planned}
 use Rattle.dispatch_steps.proofs.Turning.{has-wide, turn-rests, turn-idles, turn-accepts, turn-refuses}
 use Rattle.dispatcher.specs.Ticks.{few, startOutcome, acceptable, tickOutcome, setOfState, rowAfter, startAnswer, startRow, tickAnswer, tickRow}
-use Rattle.dispatcher.specs.Openings.{leftOf, waitingOf, shut, startOpen, tickOpen, opened, startOpening, tickOpening, boardWord}
+use Rattle.dispatcher.specs.Openings.{leftOf, waitingOf, badRow, shut, startOpen, tickOpen, opened, startOpening, tickOpening, boardWord, turnWord}
 use Rattle.dispatcher.proofs.Making.{word-refused, word-done}
+
+-- ---- ready by the waits alone, and by the order
+module _ (b : List ℕ) (E : ℕ → Bool) where
+  -- what is ready by the order is ready by the waits
+  pub ready-fewer : (g : ℕ) → ready (before b) (goalCount b) E g ≡ true → ready (waits b) (goalCount b) E g ≡ true
+  ready-fewer g h =
+      each-all (λ i. not (waits b i g) || E i) (goalCount b)
+      (λ i a. implies-in (waits b i g) (E i) (λ w. implies-out (before b i g) (E i) (each-at (λ i. not (before b i g) || E i) (goalCount b) i h a) (before-is b i g .1 (wait w))))
+
+  -- where the ended goals are ready by the waits, so is everything that a chain of waits leads from
+  chain-ended : ((g : ℕ) → E g ≡ true → ready (waits b) (goalCount b) E g ≡ true) → (i g : ℕ) → Before b i g → ready (waits b) (goalCount b) E g ≡ true → E i ≡ true
+  chain-ended f i g (wait w) h =
+      implies-out (waits b i g) (E i) (each-at (λ i. not (waits b i g) || E i) (goalCount b) i h (before-goals b i g (before-is b i g .1 (wait w)) .0)) w
+  chain-ended f i g (link {j = j} a c d) h = chain-ended f i j c (f j (chain-ended f j g d h))
+
+  pub ready-by-waits : ((g : ℕ) → E g ≡ true → ready (waits b) (goalCount b) E g ≡ true) → (g : ℕ) → ready (waits b) (goalCount b) E g ≡ ready (before b) (goalCount b) E g
+  ready-by-waits f g =
+      iff (ready (waits b) (goalCount b) E g) (ready (before b) (goalCount b) E g)
+      (λ h. each-all (λ i. not (before b i g) || E i) (goalCount b) (λ i a. implies-in (before b i g) (E i) (λ r. chain-ended f i g (before-is b i g .0 r) h)))
+      (ready-fewer g)
 
 -- ---- the sets of a well-formed record
 module _ (b : List ℕ) (w : WellFormed b) where
@@ -68,52 +91,67 @@ module _ (b : List ℕ) (w : WellFormed b) where
     abbrev E : ℕ → Bool
     E = hasGoal m
 
-    -- some goal that has not ended is before it
-    waiting-at : (j : ℕ) → j < goalLimit → has (waitingOf b m) j ≡ someBelow goalLimit (λ k. has (leftOf b m) k && has (getD (order b .rows) k 0) j)
+    -- it waits for some goal that has not ended
+    waiting-at : (j : ℕ) → j < goalLimit → has (waitingOf b m) j ≡ someBelow goalLimit (λ k. has (leftOf b m) k && has (getD (waiting b .rows) k 0) j)
     unfolding gather
-    waiting-at j l = has-setOf-in goalLimit _ j l ∙ ap (λ x. x || someBelow goalLimit (λ k. has (leftOf b m) k && has (getD (order b .rows) k 0) j)) (has-empty j)
+    waiting-at j l = has-setOf-in goalLimit _ j l ∙ ap (λ x. x || someBelow goalLimit (λ k. has (leftOf b m) k && has (getD (waiting b .rows) k 0) j)) (has-empty j)
 
-    -- the goals that wait are those that are not ready
-    ready-is : (g : ℕ) → Goals n g → not (hasGoal (waitingOf b m) g) ≡ ready (before b) n E g
-    unfolding order
+    -- the goals that do not are ready, by the waits
+    ready-is : (g : ℕ) → Goals n g → not (hasGoal (waitingOf b m) g) ≡ ready (waits b) n E g
+    unfolding waiting
     ready-is zero a = absurd (omega (arith, a .0))
     ready-is (suc j) a =
-        iff (not (has (waitingOf b m) j)) (ready (before b) n E (suc j))
-        (λ h. each-all (λ i. not (before b i (suc j)) || E i) n (λ i c. to i c (not-true (has (waitingOf b m) j) h)))
+        iff (not (has (waitingOf b m) j)) (ready (waits b) n E (suc j))
+        (λ h. each-all (λ i. not (waits b i (suc j)) || E i) n (λ i c. to i c (not-true (has (waitingOf b m) j) h)))
         (λ h. not-i (has (waitingOf b m) j) (λ u. from h u))
       where
         lj : j < goalLimit
         lj = omega (arith, a .1, few-goals)
 
-        to : (i : ℕ) → Goals n i → has (waitingOf b m) j ≡ false → not (before b i (suc j)) || E i ≡ true
+        to : (i : ℕ) → Goals n i → has (waitingOf b m) j ≡ false → not (waits b i (suc j)) || E i ≡ true
         to zero c h = absurd (omega (arith, c .0))
         to (suc i) c h =
             ⊎-elim
-            (λ (r : before b (suc i) (suc j) ≡ true).
-            ⊎-elim (λ (e : has m i ≡ true). ap (λ x. not (before b (suc i) (suc j)) || x) e ∙ or-true (not (before b (suc i) (suc j))))
+            (λ (r : waits b (suc i) (suc j) ≡ true).
+            ⊎-elim (λ (e : has m i ≡ true). ap (λ x. not (waits b (suc i) (suc j)) || x) e ∙ or-true (not (waits b (suc i) (suc j))))
             (λ (e : has m i ≡ false).
             let l : has (leftOf b m) i ≡ true = has-without (below n) m i ∙ and-i (has (below n) i) (not (has m i)) (has-below n i ∙ lt-ltb i n (c .1)) (ap not e) in
-            let q = row-in goalLimit n (before b) i j few-goals (c .1) (a .1) r in
+            let q = row-in goalLimit n (waits b) i j few-goals (c .1) (a .1) r in
             clash
             (waiting-at j lj
-            ∙ below-in goalLimit (λ k. has (leftOf b m) k && has (getD (order b .rows) k 0) j) i (omega (arith, c .1, few-goals))
-            (and-i (has (leftOf b m) i) (has (getD (order b .rows) i 0) j) l q))
+            ∙ below-in goalLimit (λ k. has (leftOf b m) k && has (getD (waiting b .rows) k 0) j) i (omega (arith, c .1, few-goals))
+            (and-i (has (leftOf b m) i) (has (getD (waiting b .rows) i 0) j) l q))
             h)
             (test (has m i)))
-            (λ (r : before b (suc i) (suc j) ≡ false). ap (λ x. not x || E (suc i)) r) (test (before b (suc i) (suc j)))
+            (λ (r : waits b (suc i) (suc j) ≡ false). ap (λ x. not x || E (suc i)) r) (test (waits b (suc i) (suc j)))
 
-        from : ready (before b) n E (suc j) ≡ true → has (waitingOf b m) j ≡ true → ⊥
+        from : ready (waits b) n E (suc j) ≡ true → has (waitingOf b m) j ≡ true → ⊥
         from h u =
-            let s = below-out goalLimit (λ k. has (leftOf b m) k && has (getD (order b .rows) k 0) j) (sym (waiting-at j lj) ∙ u) in
-            let l = and-l (has (leftOf b m) (s .x)) (has (getD (order b .rows) (s .x) 0) j) (s .so) in
-            let q = row-out goalLimit n (before b) (s .x) j few-goals (and-r (has (leftOf b m) (s .x)) (has (getD (order b .rows) (s .x) 0) j) (s .so)) in
+            let s = below-out goalLimit (λ k. has (leftOf b m) k && has (getD (waiting b .rows) k 0) j) (sym (waiting-at j lj) ∙ u) in
+            let l = and-l (has (leftOf b m) (s .x)) (has (getD (waiting b .rows) (s .x) 0) j) (s .so) in
+            let q = row-out goalLimit n (waits b) (s .x) j few-goals (and-r (has (leftOf b m) (s .x)) (has (getD (waiting b .rows) (s .x) 0) j) (s .so)) in
             let e : has m (s .x) ≡ false = not-true (has m (s .x)) (and-r (has (below n) (s .x)) (not (has m (s .x))) (sym (has-without (below n) m (s .x)) ∙ l)) in
-            let k = each-at (λ i. not (before b i (suc j)) || E i) n (suc (s .x)) h (omega arith, q .0) in
-            or-elim (not (before b (suc (s .x)) (suc j))) (E (suc (s .x))) k (λ z. true≢false (sym (q .2) ∙ not-true (before b (suc (s .x)) (suc j)) z)) (λ z. true≢false (sym z ∙ e))
+            let k = each-at (λ i. not (waits b i (suc j)) || E i) n (suc (s .x)) h (omega arith, q .0) in
+            or-elim (not (waits b (suc (s .x)) (suc j))) (E (suc (s .x))) k (λ z. true≢false (sym (q .2) ∙ not-true (waits b (suc (s .x)) (suc j)) z)) (λ z. true≢false (sym z ∙ e))
+
+    -- no ended goal is above n or waits for one that has not ended
+    abbrev known : Bool
+    known = subset m (without (below n) (waitingOf b m))
+
+    known-at : known ≡ true → (g : ℕ) → E g ≡ true → Goals n g × (ready (waits b) n E g ≡ true)
+    known-at h zero e = absurd (true≢false (sym e))
+    known-at h (suc i) e =
+        let k = sym (has-without (below n) (waitingOf b m) i) ∙ subset-has m (without (below n) (waitingOf b m)) h i e in
+        let l = ltb-true i n (sym (has-below n i) ∙ and-l (has (below n) i) (not (has (waitingOf b m) i)) k) in
+        ((omega arith, l), sym (ready-is (suc i) (omega arith, l)) ∙ and-r (has (below n) i) (not (has (waitingOf b m) i)) k)
+
+    -- then a goal is ready by the waits exactly if it is ready by the order
+    ready-same : known ≡ true → (g : ℕ) → ready (waits b) n E g ≡ ready (before b) n E g
+    ready-same h = ready-by-waits b E (λ g e. known-at h g e .1)
 
     -- the goals that can be taken
-    pub free-is : Free (before b) n (ticksAt b) E few-goals (λ g. false) (without (leftOf b m) (waitingOf b m))
-    free-is = record { inside = λ g. inside g; says = λ g. says g }
+    pub free-is : known ≡ true → Free (before b) n (ticksAt b) E few-goals (λ g. false) (without (leftOf b m) (waitingOf b m))
+    free-is h = record { inside = λ g. inside g; says = λ g. says g }
       where
         inside : (g : ℕ) → hasGoal (without (leftOf b m) (waitingOf b m)) g ≡ true → Goals n g
         inside zero e = absurd (true≢false (sym e))
@@ -128,32 +166,28 @@ module _ (b : List ℕ) (w : WellFormed b) where
             has-without (leftOf b m) (waitingOf b m) i
             ∙ ap₂ _&&_
             (has-without (below n) m i ∙ (ap (λ x. x && not (has m i)) (has-below n i ∙ lt-ltb i n (a .1)) ∙ sym (and-yes (not (has m i)))))
-            (ready-is (suc i) a)
+            (ready-is (suc i) a ∙ ready-same h (suc i))
 
     -- the goals that have ended are as they may be
-    pub ended-is : m < 2 ^ goalLimit
-        → subset m (without (below n) (waitingOf b m)) ≡ each (λ g. not (E g) || (leb g n && ready (before b) n E g)) goalLimit
+    pub ended-is : m < 2 ^ goalLimit → known ≡ each (λ g. not (E g) || (leb g n && ready (before b) n E g)) goalLimit
     ended-is small =
-        iff _ _ (λ h. each-all (λ g. not (E g) || (leb g n && ready (before b) n E g)) goalLimit (λ g a. to g a h))
+        iff _ _ (λ h. each-all (λ g. not (E g) || (leb g n && ready (before b) n E g)) goalLimit (λ g a. to g h))
         (λ h. has-subset m (without (below n) (waitingOf b m)) (λ i e. from i e h))
       where
-        to : (g : ℕ) → Goals goalLimit g → subset m (without (below n) (waitingOf b m)) ≡ true → not (E g) || (leb g n && ready (before b) n E g) ≡ true
-        to zero a h = absurd (omega (arith, a .0))
-        to (suc i) a h =
+        to : (g : ℕ) → known ≡ true → not (E g) || (leb g n && ready (before b) n E g) ≡ true
+        to g h =
             ⊎-elim
-            (λ (e : has m i ≡ true).
-            let k = sym (has-without (below n) (waitingOf b m) i) ∙ subset-has m (without (below n) (waitingOf b m)) h i e in
-            let l = ltb-true i n (sym (has-below n i) ∙ and-l (has (below n) i) (not (has (waitingOf b m) i)) k) in
-            let r = sym (ready-is (suc i) (omega arith, l)) ∙ and-r (has (below n) i) (not (has (waitingOf b m) i)) k in
-            ap₂ (λ x y. not (E (suc i)) || (x && y)) (le-leb (suc i) n l) r ∙ or-true (not (E (suc i))))
-            (λ (e : has m i ≡ false). ap (λ x. not x || (leb (suc i) n && ready (before b) n E (suc i))) e) (test (has m i))
+            (λ (e : E g ≡ true).
+            let k = known-at h g e in
+            ap₂ (λ x y. not (E g) || (x && y)) (le-leb g n (k .0 .1)) (sym (ready-same h g) ∙ k .1) ∙ or-true (not (E g)))
+            (λ (e : E g ≡ false). ap (λ x. not x || (leb g n && ready (before b) n E g)) e) (test (E g))
 
         from : (i : ℕ) → has m i ≡ true → each (λ g. not (E g) || (leb g n && ready (before b) n E g)) goalLimit ≡ true → has (without (below n) (waitingOf b m)) i ≡ true
         from i e h =
             let k = each-at (λ g. not (E g) || (leb g n && ready (before b) n E g)) goalLimit (suc i) h (has-wide m (suc i) small e) in
             let q = sym (ap (λ x. not x || (leb (suc i) n && ready (before b) n E (suc i))) e) ∙ k in
             let l = leb-true (suc i) n (and-l (leb (suc i) n) (ready (before b) n E (suc i)) q) in
-            let r = ready-is (suc i) (omega arith, l) ∙ and-r (leb (suc i) n) (ready (before b) n E (suc i)) q in
+            let r = ready-is (suc i) (omega arith, l) ∙ ready-fewer b E (suc i) (and-r (leb (suc i) n) (ready (before b) n E (suc i)) q) in
             has-without (below n) (waitingOf b m) i ∙ and-i (has (below n) i) (not (has (waitingOf b m) i)) (has-below n i ∙ lt-ltb i n l) r
 
     -- ---- a tick of an accepted record
@@ -167,50 +201,47 @@ module _ (b : List ℕ) (w : WellFormed b) where
       abbrev valid : Bool
       valid = isValid (before b) n (ticksAt b) goalLimit (stateOf hs m)
 
-      abbrev known : Bool
-      known = subset m (without (below n) (waitingOf b m))
-
       abbrev said : Outcome State
       said = onlyIf (few (length hs) && valid) 20 0 (accepted after)
 
       pub record Met (u : Outcome State) : Type 0 where
-        pub word : boardWord (turnBoard o hs) ≡ tickWord (setOfState u)
+        pub word : boardWord (turnBoard o hs) badRow ≡ tickWord (setOfState u)
         pub row : turnHeads o hs ≡ rowAfter u hs
 
       -- refused by 20, with the row as it was
-      turned-down : turnBoard o hs .phase ≡ resting → turnBoard o hs .number ≡ 20 → turnBoard o hs .place ≡ 0 → turnHeads o hs ≡ hs → Met (refused 20 0)
+      turned-down : turnBoard o hs .phase ≡ resting → turnHeads o hs ≡ hs → Met (refused 20 0)
       unfolding tickWord
-      turned-down p k q r = record { word = sym (word-refused (turnBoard o hs) p) ∙ ap₂ refusalWord k q; row = r }
+      turned-down p r = record { word = sym (word-refused (turnBoard o hs) badRow p); row = r }
 
-      goes : o .board .phase ≡ looking → valid ≡ true → Met (accepted after)
+      goes : o .board .phase ≡ looking → known ≡ true → valid ≡ true → Met (accepted after)
       unfolding tickOpen tickWord
-      goes ph e =
-          let a = turn-accepts o hs (before b) n (ticksAt b) m few-goals (planned E) (before-order b) ticks-from small ph refl free-is e in
+      goes ph k e =
+          let a = turn-accepts o hs (before b) n (ticksAt b) m few-goals (planned E) (before-order b) ticks-from small ph refl (free-is k) e in
           let v = valid-is (before b) n (ticksAt b) goalLimit (stateOf hs m) (λ g. has-wide m g small) .0 e in
           let v′ = valid-tick (before b) n (ticksAt b) (before-order b) ticks-from (stateOf hs m) v in
           let d = turnBoard o hs .done in
           let same : (g : ℕ) → hasGoal d g ≡ after .ended g = λ g. ap (λ (x : State). x .ended g) (a .state) in
           let fits : d < 2 ^ goalLimit = below-of goalLimit d (λ i l. is-false (has d i) (λ z. let k = v′ .known (suc i) (sym (same (suc i)) ∙ z) in absurd (omega (arith, k .1, few-goals)))) in
           record {
-            word = sym (word-done (turnBoard o hs) (λ z. omega (arith, a .phase))) ∙ goals-ext goalLimit d (after .ended) fits (λ g l u. same g);
+            word = sym (word-done (turnBoard o hs) badRow (λ z. omega (arith, a .phase))) ∙ goals-ext goalLimit d (after .ended) fits (λ g l u. same g);
             row = ap (λ (x : State). x .heads) (a .state);
           }
 
       looks : o .board .phase ≡ looking → known ≡ true → Met (onlyIf valid 20 0 (accepted after))
       unfolding tickOpen
       looks ph k =
-          ⊎-elim (λ e. subst Met (sym (ap (λ x. cond x (accepted after) (refused 20 0)) e)) (goes ph e))
+          ⊎-elim (λ e. subst Met (sym (ap (λ x. cond x (accepted after) (refused 20 0)) e)) (goes ph k e))
           (λ e.
           let r =
-          turn-refuses o hs (before b) n (ticksAt b) m few-goals (planned E) (before-order b) ticks-from small ph refl free-is (sym (ended-is small) ∙ k) e in
-          subst Met (sym (ap (λ x. cond x (accepted after) (refused 20 0)) e)) (turned-down (r .phase) (r .number) (r .place) (r .heads)))
+          turn-refuses o hs (before b) n (ticksAt b) m few-goals (planned E) (before-order b) ticks-from small ph refl (free-is k) (sym (ended-is small) ∙ k) e in
+          subst Met (sym (ap (λ x. cond x (accepted after) (refused 20 0)) e)) (turned-down (r .phase) (r .heads)))
           (test valid)
 
       rests : o .board .phase ≡ resting → Met (refused 20 0)
       unfolding tickOpen
       rests ph =
           let r = turn-rests o hs ph in
-          turned-down (ap (λ (x : Board). x .phase) (r .1) ∙ ph) (ap (λ (x : Board). x .number) (r .1)) (ap (λ (x : Board). x .place) (r .1)) (r .0)
+          turned-down (ap (λ (x : Board). x .phase) (r .1) ∙ ph) (r .0)
 
       pub open-met : Met said
       unfolding tickOpen
@@ -234,44 +265,44 @@ module _ (b : List ℕ) (w : WellFormed b) where
           (test (few (length hs)))
 
 -- ---- a refused record
-shut-met : (k p : ℕ) (hs : List Head) → (boardWord (turnBoard (shut k p) hs) ≡ refusalWord k p) × (turnHeads (shut k p) hs ≡ hs)
+shut-met : (x : Refusal) (hs : List Head) → (boardWord (turnBoard (shut x) hs) x ≡ refusalWord (x .number) (x .place)) × (turnHeads (shut x) hs ≡ hs)
 unfolding shut
-shut-met k p hs = let r = turn-rests (shut k p) hs refl in (ap boardWord (r .1) ∙ sym (word-refused (shut k p .board) refl), r .0)
+shut-met x hs = let r = turn-rests (shut x) hs refl in (ap (λ b. boardWord b x) (r .1) ∙ sym (word-refused (shut x .board) x refl), r .0)
 
 -- ---- the operations
 pub tick-met : (b : List ℕ) (hs : List Head) (m : ℕ) → m < 2 ^ 32
-    → (boardWord (turnBoard (tickOpening b (length hs) m) hs) ≡ tickWord (tickAnswer b hs m)) × (turnHeads (tickOpening b (length hs) m) hs ≡ tickRow b hs m)
-unfolding tickOpening tickAnswer tickRow tickOutcome readThen tickWord
+    → (turnWord (tickOpening b (length hs) m) hs ≡ tickWord (tickAnswer b hs m)) × (turnHeads (tickOpening b (length hs) m) hs ≡ tickRow b hs m)
+unfolding tickOpening tickAnswer tickRow tickOutcome readThen tickWord tickOpen shut
 tick-met b hs m small = by (reading b) refl
   where
     by : (s : Reading) → reading b ≡ s
-        → (boardWord (turnBoard (opened s (tickOpen b (length hs) m)) hs) ≡ tickWord (setOfState (started s (onlyIf (acceptable b hs m) 20 0 (accepted (tick (before b) (goalCount b) (ticksAt b) (stateOf hs m)))))))
+        → (turnWord (opened s (tickOpen b (length hs) m)) hs ≡ tickWord (setOfState (started s (onlyIf (acceptable b hs m) 20 0 (accepted (tick (before b) (goalCount b) (ticksAt b) (stateOf hs m)))))))
         × (turnHeads (opened s (tickOpen b (length hs) m)) hs ≡ rowAfter (started s (onlyIf (acceptable b hs m) 20 0 (accepted (tick (before b) (goalCount b) (ticksAt b) (stateOf hs m))))) hs)
     by Fine e = let r = open-met b (fine-well-formed b e) m hs small in (r .word, r .row)
-    by (Refused x) e = shut-met (x .number) (x .place) hs
+    by (Refused x) e = shut-met x hs
 
 pub start-met : (b : List ℕ) (hs : List Head)
-    → (boardWord (turnBoard (startOpening b (length hs)) hs) ≡ tickWord (startAnswer b hs)) × (turnHeads (startOpening b (length hs)) hs ≡ startRow b hs)
-unfolding startOpening startAnswer startRow startOutcome readThen startOpen tickWord
+    → (turnWord (startOpening b (length hs)) hs ≡ tickWord (startAnswer b hs)) × (turnHeads (startOpening b (length hs)) hs ≡ startRow b hs)
+unfolding startOpening startAnswer startRow startOutcome readThen startOpen tickWord shut
 start-met b hs = by (reading b)
   where
     open-start : (f : Bool) → few (length hs) ≡ f
-        → (boardWord (turnBoard (startOpen (length hs)) hs) ≡ tickWord (setOfState (onlyIf f 20 0 (accepted (start (length hs))))))
+        → (turnWord (startOpen (length hs)) hs ≡ tickWord (setOfState (onlyIf f 20 0 (accepted (start (length hs))))))
         × (turnHeads (startOpen (length hs)) hs ≡ rowAfter (onlyIf f 20 0 (accepted (start (length hs)))) hs)
     open-start true e =
         let ph : startOpen (length hs) .board .phase ≡ idling = ap (λ x. cond x idling resting) e in
         let r = turn-idles (startOpen (length hs)) hs ph in (
-          ap boardWord (r .1) ∙ sym (word-done (startOpen (length hs) .board) (λ z. omega (arith, ph)))
+          ap (λ b. boardWord b badRow) (r .1) ∙ sym (word-done (startOpen (length hs) .board) badRow (λ z. omega (arith, ph)))
               ∙ goals-ext goalLimit 0 (λ g. false) (omega arith) (λ g l u. goal-none g),
           r .0,
         )
     open-start false e =
         let ph : startOpen (length hs) .board .phase ≡ resting = ap (λ x. cond x idling resting) e in
         let r = turn-rests (startOpen (length hs)) hs ph in
-        (ap boardWord (r .1) ∙ sym (word-refused (startOpen (length hs) .board) ph), r .0)
+        (ap (λ b. boardWord b badRow) (r .1) ∙ sym (word-refused (startOpen (length hs) .board) badRow ph), r .0)
 
     by : (s : Reading)
-        → (boardWord (turnBoard (opened s (startOpen (length hs))) hs) ≡ tickWord (setOfState (started s (onlyIf (few (length hs)) 20 0 (accepted (start (length hs)))))))
+        → (turnWord (opened s (startOpen (length hs))) hs ≡ tickWord (setOfState (started s (onlyIf (few (length hs)) 20 0 (accepted (start (length hs)))))))
         × (turnHeads (opened s (startOpen (length hs))) hs ≡ rowAfter (started s (onlyIf (few (length hs)) 20 0 (accepted (start (length hs))))) hs)
     by Fine = open-start (few (length hs)) refl
-    by (Refused x) = shut-met (x .number) (x .place) hs
+    by (Refused x) = shut-met x hs

@@ -29,6 +29,16 @@ fn few(heads: usize) -> bool
     heads <= HEADS
 }
 
+// What refuses a row of heads or a set of ended goals.
+fn bad_row() -> Refusal
+    ensures { λ r. ⌜ r ≡ O.badRow ⌝ }
+{
+    Refusal {
+        number: 20,
+        place: 0,
+    }
+}
+
 // The phase where nothing is refused, or the heads rest.
 fn unless_refused(ok: bool, phase: u32) -> u32
     ensures { λ r. ⌜ r ≡ cond ok phase S.resting ⌝ }
@@ -41,18 +51,20 @@ fn unless_refused(ok: bool, phase: u32) -> u32
 
 // Of a refused record: nothing is done with the heads.
 fn shut(r: Refusal) -> Opening
-    ensures { λ o. ⌜ o ≡ O.shut (r .number) (r .place) ⌝ }
+    ensures { λ o. ⌜ o ≡ O.shut r ⌝ }
 {
     let ticks = [0u32; Graph::MAX];
     let board = Board {
         phase: REST,
         free: 0,
         done: 0,
-        number: r.number,
-        place: r.place,
     };
     let plan = Plan { ticks };
-    Opening { board, plan }
+    Opening {
+        board,
+        plan,
+        refusal: r,
+    }
 }
 
 // Of an accepted record, a start: the heads are made idle.
@@ -66,23 +78,27 @@ fn start_open(heads: usize) -> Opening
         phase,
         free: 0,
         done: 0,
-        number: 20,
-        place: 0,
     };
     let plan = Plan { ticks };
-    Opening { board, plan }
+    let refusal = bad_row();
+    Opening {
+        board,
+        plan,
+        refusal,
+    }
 }
 
-// Of an accepted record, a tick: the heads are looked at. A goal is waiting if some goal that has not ended is before it. The goals that have ended are judged here.
+// Of an accepted record, a tick: the heads are looked at. The goals that have ended are judged here, and which goals wait for one that has not ended. Direct waits
+// tell both: where every ended goal's have ended, so have those that a chain of waits leads from.
 fn tick_open(bytes: &[u8], heads: usize, ended: u32) -> Opening
     requires { ⌜ WellFormed (now bytes) ⌝ }
     ensures { λ o. ⌜ o ≡ O.tickOpen (now (bytes .entry)) heads ended ⌝ }
 {
     let c = clause::decode(bytes);
-    let order = order::order_of(c.n, &c.sets, &c.grounds, &c.listed);
+    let waits = order::waits_of(c.n, &c.sets, &c.grounds, &c.listed);
     let all = sets::below32(c.n);
     let left = sets::without32(all, ended);
-    let waiting = graph::gathered(&order.rows, 0, left);
+    let waiting = graph::gathered(&waits.rows, 0, left);
     let ready = sets::without32(all, waiting);
     let known = sets::subset32(ended, ready);
     let ok = few(heads) & known;
@@ -92,12 +108,15 @@ fn tick_open(bytes: &[u8], heads: usize, ended: u32) -> Opening
         phase,
         free,
         done: ended,
-        number: 20,
-        place: 0,
     };
     let ticks = c.ticks;
     let plan = Plan { ticks };
-    Opening { board, plan }
+    let refusal = bad_row();
+    Opening {
+        board,
+        plan,
+        refusal,
+    }
 }
 
 // What a start of so many heads begins with.
@@ -120,14 +139,14 @@ pub fn tick_opening(bytes: &[u8], heads: usize, ended: u32) -> Opening
     }
 }
 
-// The answer word: the refusal, or the goals that have ended.
-pub fn word_of(b: Board) -> u64
-    ensures { λ w. ⌜ w ≡ O.boardWord b ⌝ }
+// The answer word: the refusal if the heads rest, or the goals that have ended.
+pub fn word_of(b: Board, r: Refusal) -> u64
+    ensures { λ w. ⌜ w ≡ O.boardWord b r ⌝ }
 {
     let set = b.done as usize;
     if b.phase == REST {
-        let number = b.number;
-        let place = b.place;
+        let number = r.number;
+        let place = r.place;
         return lfj_words::refused(Refusal { number, place });
     }
     set as u64

@@ -38,14 +38,15 @@ fn sweep(heads: &mut [Head], b: Board, p: Plan) -> Board
 
 // The row gone over twice, and the answer word.
 fn turn(heads: &mut [Head], o: Opening) -> u64
-    ensures { λ r. ⌜ (r ≡ O.boardWord (S.turnBoard o (now (heads .entry)))) × (now (heads .exit) ≡ S.turnHeads o (now (heads .entry))) ⌝ }
+    ensures { λ r. ⌜ (r ≡ O.turnWord o (now (heads .entry))) × (now (heads .exit) ≡ S.turnHeads o (now (heads .entry))) ⌝ }
 {
     let board = o.board;
     let plan = o.plan;
+    let refusal = o.refusal;
     let seen = sweep(heads, board, plan);
     let next = dispatch_steps::second(seen);
     let last = sweep(heads, next, plan);
-    dispatcher::word_of(last)
+    dispatcher::word_of(last, refusal)
 }
 
 // One tick: the goals that have ended after it.

@@ -73,3 +73,7 @@ module _ (b : List ℕ) (w : WellFormed b) (c : Clause) (e : c ≡ decoded b) wh
   pub clause-order : {g : Graph} → g ≡ orderRows variableLimit (c .n) (c .sets) (c .grounds) (c .listed) → g ≡ order b
   unfolding decoded
   clause-order h = h ∙ ap (λ (x : Clause). orderRows variableLimit (x .n) (x .sets) (x .grounds) (x .listed)) e ∙ order-decoded b w
+
+  pub clause-waits : {g : Graph} → g ≡ waitRows variableLimit (c .n) (c .sets) (c .grounds) (c .listed) → g ≡ waiting b
+  unfolding decoded
+  clause-waits h = h ∙ ap (λ (x : Clause). waitRows variableLimit (x .n) (x .sets) (x .grounds) (x .listed)) e ∙ waits-decoded b w

@@ -4,7 +4,7 @@ use Rattle.sets.specs.Sets.{below}
 use Rattle.graph.specs.Passes.{gather}
 use Rattle.graph.specs.declared.Graph.{Graph}
 use Rattle.clause.proofs.Decoded.{clause-count, clause-few}
-use Rattle.order.proofs.Decoded.{clause-order}
+use Rattle.order.proofs.Decoded.{clause-waits}
 use Rattle.dispatcher.proofs.Making.{Made, made-is, ticks-of}
 use borrow.Author.Needs.{needs}
 use Rattle.dispatcher.proofs.tick_open.Statement.{statement}
@@ -13,8 +13,8 @@ use Rattle.dispatcher.proofs.tick_open.Tie as tie
 decode-requires : tie.Need-decode-requires
 decode-requires c κs = search needs
 
-order-of-requires : tie.Need-order-of-requires
-order-of-requires c κs = let d = c .before .before .before .before in clause-few _ (d .before .before .pre) _ (d .decode .ensures)
+waits-of-requires : tie.Need-waits-of-requires
+waits-of-requires c κs = let d = c .before .before .before .before in clause-few _ (d .before .before .pre) _ (d .decode .ensures)
 
 below32-requires : tie.Need-below32-requires
 below32-requires c κs = let d = c .before .before .before .before .before in clause-few _ (d .before .before .pre) _ (d .decode .ensures)
@@ -40,33 +40,36 @@ unless-refused-requires c κs = search needs
 without32-requires-3 : tie.Need-without32-requires-3
 without32-requires-3 c κs = search needs
 
+bad-row-requires : tie.Need-bad-row-requires
+bad-row-requires c κs = search needs
+
 returns : tie.Need-returns
 returns c =
-    let m = c .before .before .before .before .before in
-    let g = c .before .before .before .before .before .before .before .before .before .before .before in
-    let d = c .before .before .before .before .before .before .before .before .before .before .before .before .before .before .before .before in
+    let m = c .before .before .before .before .before .before in
+    let g = c .before .before .before .before .before .before .before .before .before .before .before .before in
+    let d = c .before .before .before .before .before .before .before .before .before .before .before .before .before .before .before .before .before in
     let a = d .before .before .args in
-    let o = clause-order _ (d .before .before .pre) _ (d .decode .ensures) (g .order-of .ensures) in
-    made-is _ (a .heads) (a .ended) _ _ _ _ _ _ _ _ _ _
+    let o = clause-waits _ (d .before .before .pre) _ (d .decode .ensures) (g .waits-of .ensures) in
+    made-is _ (a .heads) (a .ended) _ _ _ _ _ _ _ _ _ _ _
     (record {
-      all-is = c .before .before .before .before .before .before .before .before .before .before .below32 .ensures ∙ ap below (clause-count _ (d .before .before .pre) _ (d .decode .ensures));
-      left-is = c .before .before .before .before .before .before .before .before .before .without32 .ensures;
-      waiting-is = m .before .gathered .ensures ∙ ap (λ (x : Graph). gather 32 (x .rows) 0 (c .before .before .before .before .before .before .before .before .before .without32 .result)) o;
+      all-is = c .before .before .before .before .before .before .before .before .before .before .before .below32 .ensures ∙ ap below (clause-count _ (d .before .before .pre) _ (d .decode .ensures));
+      left-is = c .before .before .before .before .before .before .before .before .before .before .without32 .ensures;
+      waiting-is = m .before .gathered .ensures ∙ ap (λ (x : Graph). gather 32 (x .rows) 0 (c .before .before .before .before .before .before .before .before .before .before .without32 .result)) o;
       ready-is = m .without322 .ensures;
-      known-is = c .before .before .before .before .subset32 .ensures;
-      enough-is = c .before .before .before .few .ensures;
+      known-is = c .before .before .before .before .before .subset32 .ensures;
+      enough-is = c .before .before .before .before .few .ensures;
       ok-is = refl;
-      phase-is = c .before .before .unless-refused .ensures;
-      free-is = c .before .without323 .ensures;
+      phase-is = c .before .before .before .unless-refused .ensures;
+      free-is = c .before .before .without323 .ensures;
     })
-    (ticks-of _ (d .decode .ensures))
+    (ticks-of _ (d .decode .ensures)) (c .bad-row .ensures)
 
 pub tick-open-spec : {M : Type 1} → statement M
 tick-open-spec =
     tie.close
     (tie.spec
     decode-requires
-    order-of-requires
+    waits-of-requires
     below32-requires
     without32-requires
     gathered-requires
@@ -75,4 +78,5 @@ tick-open-spec =
     few-requires
     unless-refused-requires
     without32-requires-3
+    bad-row-requires
     returns)

@@ -11,10 +11,10 @@ refused-requires : tie.Need-refused-requires
 refused-requires c κs = search needs
 
 returns : tie.Need-returns
-returns c = c .refused .ensures ∙ word-refused (c .before .before .before .before .args .b) (c .before .if1 .taken)
+returns c = c .refused .ensures ∙ word-refused (c .before .before .before .before .args .b) (c .before .before .before .before .args .r) (c .before .if1 .taken)
 
 returns-2 : tie.Need-returns-2
-returns-2 c = word-done (c .before .before .before .args .b) (c .if1 .left)
+returns-2 c = word-done (c .before .before .before .args .b) (c .before .before .before .args .r) (c .if1 .left)
 
 pub word-of-spec : {M : Type 1} → statement M
 word-of-spec = tie.close (tie.spec cast-set refused-requires returns returns-2)
