@@ -23,16 +23,25 @@ function clear(digits, from, text, at, byte) {
     return (from > 0 ? "from byte " from " on: .." : "") text (at < length(digits) ? ".." : "")
 }
 
-# A variable set of 16 digits.
-function members(digits, at, bit, digit, result) {
-    for (at = 16; at >= 1; at--) {
+# A set in hexadecimal whose lowest bit is this member: 0 for variables, 1 for goals.
+function members(digits, lowest, at, bit, digit, result) {
+    for (at = length(digits); at >= 1; at--) {
         digit = value(substr(digits, at, 1))
         for (bit = 0; bit < 4; bit++) {
-            if (digit % 2 == 1) result = result (result == "" ? "" : ",") 4 * (16 - at) + bit
+            if (digit % 2 == 1) result = result (result == "" ? "" : ",") 4 * (length(digits) - at) + bit + lowest
             digit = int(digit / 2)
         }
     }
     return "{" result "}"
+}
+
+# The ended goals and the heads of a line whose field with the ended goals is this one.
+function state(line, at, words, fields, count, head) {
+    count = split(line, fields, " ")
+    words = "ended " members(fields[at], 1)
+    for (at += 2; at < count; at += 2)
+        words = words "; head " ++head " " (fields[at] == 0 && fields[at + 1] == 0 ? "idle" : "goal " fields[at] ", " fields[at + 1] " left")
+    return length(words) > 500 ? substr(words, 1, 500) ".." : words
 }
 
 # A record's fields in words, as far as they go.
@@ -80,9 +89,15 @@ function window(one, other, low, high, middle) {
     return low < 80 ? 0 : int(low / 2) - 40
 }
 
-function print_answer(word, answer, from) {
+function print_answer(word, answer, from, fields) {
     printf "  %-9s %s\n", word, short(answer)
     if (text_of(answer) != "") printf "            %s\n", clear(text_of(answer), from)
+    if (answer !~ /^ok /) return
+    if (operation ~ /^(start|tick)$/) printf "            %s\n", state(answer, 2)
+    if (operation == "run") {
+        split(answer, fields, " ")
+        printf "            last working tick %s, all ticks %s, heaviest chain %s\n", fields[2], fields[3], fields[4]
+    }
 }
 
 function print_case(fields) {
@@ -90,6 +105,8 @@ function print_case(fields) {
     printf "%s: %s\n  %-9s %s\n", name, about, "asked", short(question)
     printf "            %s\n", record(fields[3])
     if (operation == "check") printf "            text %s\n", clear(fields[4], 0)
+    if (operation == "tick") printf "            %s\n", state(question, 4)
+    if (operation ~ /^(start|run)$/) printf "            %s heads\n", fields[4]
 }
 
 function compare(given, from) {

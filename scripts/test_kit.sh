@@ -84,7 +84,10 @@ tried 0 "^kit $(cat kit/VERSION)\$" --version
 tried 0 '^drafts/whole-case.1  ' --list
 tried 0 '^            (1&2),3$' --show drafts/whole-case.2
 tried 0 '1 half {0}; 2 edge {1,2}; 3 join {0,2}; independent 0-1 0-2' --show drafts/whole-case.2
-FILES="kit/vectors/after-03.txt" tried 0 '1096 agree' "$work/right"
+tried 0 '^            ended {}; head 1 idle; head 2 goal 1, 1 left$' --show tick/freed-goal.2
+tried 0 '^            ended {1}; head 1 idle; head 2 idle$' --show tick/freed-goal.2
+tried 0 '^            last working tick 15, all ticks 34, heaviest chain 12$' --show run/more-heads.4
+FILES="kit/vectors/after-04.txt" tried 0 '1777 agree' "$work/right"
 FILES="kit/none.txt" tried 2 'no such file of cases' "$work/right"
 
 twice=$(sh kit/run.sh --list | awk '{ print $1 }' | sort | uniq -d)

@@ -35,16 +35,18 @@ for output in crates/run_cases/stdout crates/run_texts/stdout crates/sheet_limit
 done
 sums >"$work/before"
 echo '# no case' >"$work/empty.txt"
-echo 'read 3 00 = refused 1 1' >"$work/read.txt"
-echo 'unread 3 00 = ok 0' >"$work/unread.txt"
-echo 'check 3 00 = ' >"$work/broken.txt"
-echo 'read 2 00 = refused 1 1' >"$work/other.txt"
+echo 'read 4 00 = refused 1 1' >"$work/read.txt"
+echo 'unread 4 00 = ok 0' >"$work/unread.txt"
+echo 'start 4 00 1 = refused 1 1' >"$work/start.txt"
+echo 'tick 4 00 00000000 2 0 0 = refused 1 1' >"$work/tick.txt"
+echo 'check 4 00 = ' >"$work/broken.txt"
+echo 'read 3 00 = refused 1 1' >"$work/other.txt"
 for tool in expectations text_cases sheet_cases; do
     refused tools/$tool.py
     refused tools/$tool.py kit/cases/none.txt
     refused tools/$tool.py kit/cases/form.txt kit/cases/none.txt
     refused tools/$tool.py kit/cases
-    for name in empty unread broken other; do
+    for name in empty unread start tick broken other; do
         refused tools/$tool.py "$work/$name.txt"
     done
 done

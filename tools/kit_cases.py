@@ -5,9 +5,12 @@ import sys
 from typing import NamedTuple
 
 # the field K: how many change requests have landed
-LANDED = 3
-# the number of fields behind OPERATION and K
-FIELDS = {"read": 1, "waits": 1, "order": 1, "form": 2, "length": 1, "mel": 2, "text": 2, "check": 2, "sheet": 1, "unread": 1}
+LANDED = 4
+# the number of fields behind OPERATION and K; of a tick without those of its heads, of which the third field says how many there are
+FIELDS = {
+    **{"read": 1, "waits": 1, "order": 1, "form": 2, "length": 1, "mel": 2, "text": 2, "check": 2, "sheet": 1, "unread": 1},
+    **{"start": 2, "tick": 3, "run": 2},
+}
 
 
 class Case(NamedTuple):
@@ -59,6 +62,14 @@ def read_text(path):
         fail(f"{path}: not a text file")
 
 
+def is_case(words):
+    """Whether a question of these words has the fields of its operation."""
+    count = FIELDS.get(words[0])
+    if words[0] == "tick" and len(words) > 4 and words[4].isdecimal():
+        count += 2 * int(words[4])
+    return count == len(words) - 2
+
+
 def cases_of(path):
     """The cases of one file. A line `# GROUP: words` names the group of the next ones, which are called FILE/GROUP.1 and so on."""
     found = []
@@ -71,7 +82,7 @@ def cases_of(path):
         if line and not line.startswith("#"):
             question, _, answer = line.partition(" = ")
             words = question.split(" ")
-            if not answer or FIELDS.get(words[0]) != len(words) - 2:
+            if not answer or not is_case(words):
                 fail(f"{path}:{number}: not a case of the kit's format")
             if words[1] != str(LANDED):
                 fail(f"{path}:{number}: the field K is not {LANDED}")
@@ -83,7 +94,7 @@ def cases_of(path):
 def cases(paths):
     """The cases of the files, in their order."""
     if not paths:
-        fail(f"no file is named; name files of the kit, as in {sys.argv[0]} kit/cases/*.txt kit/vectors/after-03.txt")
+        fail(f"no file is named; name files of the kit, as in {sys.argv[0]} kit/cases/*.txt kit/vectors/after-04.txt")
     found = [case for path in paths for case in cases_of(path)]
     if not found:
         fail(f"no case stands in {' '.join(paths)}")

@@ -118,7 +118,33 @@ def place_of(paper, start):
 # a goal with its facts, a clause with such goals, and what is said of it
 GOAL = r"\{[\d,]*\}(?: knowing \{[\d,]*\})?(?: of \d+ ticks?)?(?: with a text of \d+ bytes?)?"
 CLAUSE = rf"Version (\d+), head (\{{[\d,]*\}})(?:, ground (\{{[\d,]*\}}))?, goals ({GOAL}(?:, {GOAL})*)(?:, cut to (\d+) bytes)?: "
-SAID = r"(?:read|refused by \d+ at \d+|(?:form|MEL) `[^`]*`)"
+# what the dispatcher answers: a row of heads is `GOAL:LEFT GOAL:LEFT ..`, an idle head 0:0
+REFUSED = r"\d+ at \d+"
+STATE = r"`([\d: ]*)`, ended (\{[\d,]*\})"
+START = rf"start of (\d+) heads? gives (?:`([\d: ]*)`|({REFUSED}))"
+TICK = rf"tick of {STATE} gives (?:{STATE}|({REFUSED}))"
+RUN = rf"run of (\d+) heads? gives (?:T (\d+), W (\d+), C (\d+)|({REFUSED}))"
+# any of these, without their groups
+DISPATCHED = "(?:" + "|".join(re.sub(r"(?<!\\)\((?!\?)", "(?:", said) for said in (START, TICK, RUN)) + ")"
+SAID = rf"(?:read|refused by \d+ at \d+|(?:form|MEL) `[^`]*`|{DISPATCHED})"
+
+
+def dispatch_case(data, said):
+    """A case of what is said of a start, a tick or a run."""
+    row = lambda heads: " ".join([str(len(heads.split()))] + heads.replace(":", " ").split())
+    goals = lambda text: f"{sum(1 << goal - 1 for goal in sets_in(text)[0]):08x}"
+    start, tick, run = (re.fullmatch(pattern, said) for pattern in (START, TICK, RUN))
+    if start:
+        heads, left, refused = start.groups()
+        question, answer = f"start {LANDED} {hexed(data)} {heads}", f"{0:08x} {row(left or '')}"
+    elif tick:
+        heads, ended, left, after, refused = tick.groups()
+        question = f"tick {LANDED} {hexed(data)} {goals(ended)} {row(heads)}"
+        answer = f"{goals(after or '{}')} {row(left or '')}"
+    else:
+        heads, *numbers, refused = run.groups()
+        question, answer = f"run {LANDED} {hexed(data)} {heads}", " ".join(number or "" for number in numbers)
+    case(question, f"refused {refused.replace(' at', '')}" if refused else f"ok {answer}")
 
 
 def with_facts(found):
@@ -155,7 +181,9 @@ def one_draft(draft, paper, last):
         data = with_facts(found)
         for said in re.findall(SAID, found[6]):
             text = re.search(r"(form|MEL) `([^`]*)`", said)
-            if text:
+            if re.fullmatch(DISPATCHED, said):
+                dispatch_case(data, said)
+            elif text:
                 text_case(text[1].lower(), data, text[2])
             else:
                 refused = re.search(r"by (\d+) at (\d+)", said)
@@ -182,13 +210,16 @@ def one_draft(draft, paper, last):
         check_case(two, found[1], f"refused {found[2]} {found[3]}")
     # clauses given by their waits
     clause = r"(?:(\w+) goals?, )?(?:no waits|[Ww]aits ((?:\d+-\d+(?:, | and )?)+))(?: of (\w+)(?: goals)?)?: "
-    for found in iter(lambda: take(clause + r"(?:`([^`]*)`|refusal 13 with ([\d ]*\d|the first four))"), None):
+    for found in iter(lambda: take(clause + rf"(?:`([^`]*)`|refusal 13 with ([\d ]*\d|the first four)|({DISPATCHED}(?:, {DISPATCHED})*))"), None):
         waits = pairs_in(found[2] or "")
         word = (found[1] or found[3] or "").lower()
         n = WORDS[word] if word else max(map(max, waits))
         data = waiting(n, waits)
         if found[4]:
             text_case("form", data, found[4])
+        elif found[6]:
+            for said in re.findall(DISPATCHED, found[6]):
+                dispatch_case(data, said)
         else:
             no_form(data, first_four(n, waits) if found[5] == "the first four" else found[5])
     found = take(r"One goal: `([^`]*)`")

@@ -2,7 +2,7 @@
 //! clauses that are hardest on an annotator.
 
 use crate::Refusal;
-use crate::record::{GOAL_TEXT_LIMIT, TICK_LIMIT, scan};
+use crate::record::{GOAL_LIMIT, GOAL_TEXT_LIMIT, TICK_LIMIT, scan};
 
 /// What is known just left of a goal, and how long it takes.
 #[derive(Clone, Copy, PartialEq, Eq, Debug)]
@@ -90,6 +90,14 @@ impl Parts {
         self
     }
 
+    /// The clause as a record of version 2, with the header's ground set and these ticks at its
+    /// goals. A goal for which none are given has 1.
+    pub fn lasting(self, ticks: &[u16]) -> Parts {
+        let mut parts = self.knowing(&[]);
+        parts.facts.iter_mut().zip(ticks).for_each(|(facts, ticks)| facts.ticks = *ticks);
+        parts
+    }
+
     /// The ground set just left of a goal, numbered from 0.
     pub fn ground_at(&self, goal: usize) -> u64 {
         self.facts.get(goal).map_or(self.ground, |facts| facts.ground)
@@ -133,9 +141,7 @@ impl Parts {
     /// The longest record of all, 1,910 bytes: the same clause in version 2. No variable is
     /// ground anywhere, and each goal takes the most ticks.
     pub fn longest_wide_record() -> Parts {
-        let mut parts = Parts::longest_record().knowing(&[]);
-        parts.facts.iter_mut().for_each(|facts| facts.ticks = TICK_LIMIT);
-        parts
+        Parts::longest_record().lasting(&[TICK_LIMIT; GOAL_LIMIT])
     }
 
     /// A clause without a form, of four goals or more: each goal waits for all before it, but

@@ -1,15 +1,18 @@
 //! Cases as lines of text, `OPERATION K INPUT.. = ANSWER..`, and what an annotator answers.
 //! The format is explained in the kit's README.
 
+use crate::numbers::first_goals;
 use crate::sheet::{read_part, sheet};
-use crate::{Order, Refusal, Verdict};
+use crate::{GOAL_LIMIT, Head, Order, Refusal, Verdict, heaviest};
 use std::hint::black_box;
 
 /// The field K: how many change requests have landed.
-pub const LANDED: u8 = 3;
+pub const LANDED: u8 = 4;
 
 /// The operations of the paper, as a case calls them.
 pub trait Annotator {
+    /// A head of the row that is lent to the dispatcher.
+    type Head: Copy + From<Head> + Into<Head>;
     fn read(&self, record: &[u8]) -> Result<u32, Refusal>;
     /// `None` if the annotator does not give the waits before closure.
     fn waits(&self, record: &[u8]) -> Option<Result<Order, Refusal>>;
@@ -24,12 +27,17 @@ pub trait Annotator {
     /// How many bytes of standard input the program that prints the sheet leaves unread;
     /// `None` if there is no program.
     fn unread(&self, input: &[u8]) -> Option<usize>;
+    /// The ticks of each goal.
+    fn ticks(&self, record: &[u8]) -> Result<[u32; GOAL_LIMIT], Refusal>;
+    fn start(&self, record: &[u8], heads: &mut [Self::Head]) -> Result<u32, Refusal>;
+    fn tick(&self, record: &[u8], heads: &mut [Self::Head], ended: u32) -> Result<u32, Refusal>;
 }
 
 /// The annotator of this crate.
 pub struct Reference;
 
 impl Annotator for Reference {
+    type Head = Head;
     fn read(&self, record: &[u8]) -> Result<u32, Refusal> {
         crate::read(record)
     }
@@ -59,6 +67,15 @@ impl Annotator for Reference {
     }
     fn unread(&self, input: &[u8]) -> Option<usize> {
         Some(input.len() - read_part(input).len())
+    }
+    fn ticks(&self, record: &[u8]) -> Result<[u32; GOAL_LIMIT], Refusal> {
+        crate::ticks(record)
+    }
+    fn start(&self, record: &[u8], heads: &mut [Head]) -> Result<u32, Refusal> {
+        crate::start(record, heads)
+    }
+    fn tick(&self, record: &[u8], heads: &mut [Head], ended: u32) -> Result<u32, Refusal> {
+        crate::tick(record, heads, ended)
     }
 }
 
@@ -140,6 +157,101 @@ fn reading<T>(bytes: &[u8], call: impl FnOnce(&[u8]) -> T) -> Result<T, String> 
     }
 }
 
+/// The most heads of a row that a question can ask for.
+const ROW_LIMIT: usize = 1 << 17;
+/// What a row is filled with before a start, and what stands on each side of every row.
+const KEPT: Head = Head { goal: 0xa5a5_a5a5, left: 0x5a5a_5a5a };
+
+/// A row of heads that a start is asked for.
+fn row_of(heads: usize) -> Result<Vec<Head>, String> {
+    if heads > ROW_LIMIT {
+        return Err(format!("a row of {heads} heads, more than the {ROW_LIMIT} of this program"));
+    }
+    Ok(vec![KEPT; heads])
+}
+
+/// Lends the row to the dispatcher, and puts what is left there into it. A head that should have
+/// been kept and was not is an error: any of a call that is refused, and one beside the row.
+fn lend<H: Copy + From<Head> + Into<Head>, T>(
+    row: &mut [Head],
+    call: impl FnOnce(&mut [H]) -> Result<T, Refusal>,
+) -> Result<Result<T, Refusal>, String> {
+    let beside = [KEPT; MARGIN];
+    let mut all: Vec<H> =
+        beside.iter().chain(&*row).chain(&beside).map(|head| H::from(*head)).collect();
+    let answer = call(&mut all[MARGIN..MARGIN + row.len()]);
+    let all: Vec<Head> = black_box(all).into_iter().map(H::into).collect();
+    let (before, rest) = all.split_at(MARGIN);
+    let (left, behind) = rest.split_at(row.len());
+    if before != beside || behind != beside {
+        return Err("a head beside the row was changed".to_string());
+    }
+    match &answer {
+        Err(refusal) if left != row => {
+            Err(format!("{}, and a head of the row was changed", refused(*refusal)))
+        }
+        _ => {
+            row.copy_from_slice(left);
+            Ok(answer)
+        }
+    }
+}
+
+/// The row that `HEADS GOAL LEFT ..` says: the words behind the first four of a question.
+fn row_in(words: &[&str]) -> Result<Vec<Head>, String> {
+    let numbers: Vec<u32> =
+        words.get(4..).unwrap_or(&[]).iter().map_while(|word| word.parse().ok()).collect();
+    match numbers.split_first() {
+        Some((count, row))
+            if row.len() == 2 * *count as usize && words.len() == 4 + numbers.len() =>
+        {
+            Ok(row.chunks(2).map(|two| Head { goal: two[0], left: two[1] }).collect())
+        }
+        _ => Err(format!("not a row of heads: {}", words.join(" "))),
+    }
+}
+
+/// The ended goals and the row as an answer.
+fn dispatched(ended: u32, row: &[Head]) -> String {
+    let mut line = format!("ok {ended:08x} {}", row.len());
+    for head in row {
+        line += &format!(" {} {}", head.goal, head.left);
+    }
+    line
+}
+
+/// A run from a start to the tick in which the last goal ends: that tick's number, the ticks of
+/// all goals and those of the heaviest chain. A tick that is refused is an error, and so is a run
+/// that goes on for longer than one head would need, or changes something when it is over.
+fn course<A: Annotator>(
+    annotator: &A,
+    record: &[u8],
+    heads: &mut [A::Head],
+) -> Result<Result<String, String>, Refusal> {
+    let mut ended = annotator.start(record, heads)?;
+    let (order, ticks) = (annotator.order(record)?, annotator.ticks(record)?);
+    let (all, total) = (first_goals(order.goals), ticks.iter().sum::<u32>());
+    let mut last = 0;
+    while ended != all {
+        if last == total {
+            return Ok(Err(format!("after {total} ticks the ended goals are {ended:08x}")));
+        }
+        last += 1;
+        match annotator.tick(record, heads, ended) {
+            Ok(more) => ended = more,
+            Err(refusal) => {
+                return Ok(Err(format!("tick {last} of a run is {}", refused(refusal))));
+            }
+        }
+    }
+    let row = |heads: &[A::Head]| heads.iter().map(|head| (*head).into()).collect::<Vec<Head>>();
+    let left = row(heads);
+    if annotator.tick(record, heads, ended) != Ok(all) || row(heads) != left {
+        return Ok(Err("a tick after all goals have ended changes something".to_string()));
+    }
+    Ok(Ok(format!("ok {last} {total} {}", heaviest(&order, &ticks))))
+}
+
 /// What the annotator answers to `OPERATION K INPUT..`. `skip` for what it does not offer.
 pub fn answer(annotator: &impl Annotator, question: &str) -> Result<String, String> {
     let words: Vec<&str> = question.split(' ').collect();
@@ -152,8 +264,9 @@ pub fn answer(annotator: &impl Annotator, question: &str) -> Result<String, Stri
 
 /// The operation of a question whose words are given.
 fn operation(annotator: &impl Annotator, record: &[u8], words: &[&str]) -> Result<String, String> {
-    let field = || words.get(3).copied().ok_or(format!("too short: {}", words.join(" ")));
-    let number = || field()?.parse::<u32>().map_err(|e| format!("{e}: {}", words.join(" ")));
+    let asked = || words.join(" ");
+    let field = || words.get(3).copied().ok_or_else(|| format!("too short: {}", asked()));
+    let number = || field()?.parse::<u32>().map_err(|e| format!("{e}: {}", asked()));
     let skip = || Ok("skip".to_string());
     let answer = match words[0] {
         "read" => annotator.read(record).map(|_| "ok".to_string()),
@@ -170,6 +283,25 @@ fn operation(annotator: &impl Annotator, record: &[u8], words: &[&str]) -> Resul
         "check" => reading(&unhex(field()?)?, |text| annotator.check(record, text))?.map(verdict),
         "sheet" => Ok(format!("ok {}", hex(&sheet(annotator, record)))),
         "unread" => annotator.unread(record).map_or_else(skip, |rest| Ok(format!("ok {rest}"))),
+        "start" => {
+            let mut row = row_of(number()? as usize)?;
+            let lent = lend(&mut row, |heads| annotator.start(record, heads));
+            lent?.map(|ended| dispatched(ended, &row))
+        }
+        "tick" => {
+            let ended =
+                u32::from_str_radix(field()?, 16).map_err(|e| format!("{e}: {}", asked()))?;
+            let mut row = row_in(words)?;
+            let lent = lend(&mut row, |heads| annotator.tick(record, heads, ended));
+            lent?.map(|ended| dispatched(ended, &row))
+        }
+        "run" => {
+            let mut row = row_of(number()? as usize)?;
+            match lend(&mut row, |heads| course(annotator, record, heads))? {
+                Ok(run) => Ok(run?),
+                Err(refusal) => Err(refusal),
+            }
+        }
         other => return Err(format!("no operation is called {other}")),
     };
     Ok(answer.unwrap_or_else(refused))

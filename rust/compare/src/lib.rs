@@ -1,5 +1,5 @@
 //! A second annotator of half-motif clauses, written by hand from the papers
-//! `01-scope.md` ("01") and `02-change-requests.md` ("02"), requests 1 to 3, and apart from the
+//! `01-scope.md` ("01") and `02-change-requests.md` ("02"), requests 1 to 4, and apart from the
 //! proved one. It is the reference of the differential test and the yardstick of the benchmark,
 //! so it is fast: goal sets are `u32`, variable sets `u64`, nothing is allocated, a record is
 //! decoded once a call.
@@ -25,6 +25,7 @@ pub mod about;
 pub mod arrays;
 pub mod build;
 pub mod cases;
+mod dispatch;
 mod expression;
 mod form;
 pub mod generate;
@@ -37,7 +38,9 @@ pub mod proved;
 mod record;
 pub mod serve;
 mod sheet;
+pub mod states;
 
+pub use dispatch::{HEAD_LIMIT, Head, heaviest};
 pub use expression::{TEXT_LIMIT, Verdict};
 pub use form::FORM_LIMIT;
 pub use order::Order;
@@ -131,4 +134,22 @@ pub fn check(bytes: &[u8], text: &[u8]) -> Result<Verdict, Refusal> {
     let clause = Clause::read(bytes)?;
     let stated = expression::read(text, clause.goals)?;
     Ok(expression::compare(&stated, &order::before(&clause)))
+}
+
+/// Makes all heads of the row idle, and answers the empty set of ended goals; or 20.
+#[inline(never)]
+pub fn start(bytes: &[u8], heads: &mut [Head]) -> Result<u32, Refusal> {
+    dispatch::start(bytes, heads)
+}
+
+/// One tick: idle heads take goals, then busy heads work. Answers the ended goals, goal g at bit
+/// g - 1, or 20.
+#[inline(never)]
+pub fn tick(bytes: &[u8], heads: &mut [Head], ended: u32) -> Result<u32, Refusal> {
+    dispatch::tick(bytes, heads, ended)
+}
+
+/// The ticks of each goal; places behind the last one have 0.
+pub fn ticks(bytes: &[u8]) -> Result<[u32; GOAL_LIMIT], Refusal> {
+    dispatch::ticks(bytes)
 }

@@ -74,8 +74,9 @@ fn chain(active: u32, goal: usize) -> u32 {
     if active >> goal & 1 == 1 { active & (u32::MAX << goal << 1) } else { 0 }
 }
 
+/// For each goal from `from` on, numbered from 0, the goals that it is before.
 #[inline(always)]
-fn after_from(clause: &Clause, from: usize) -> [u32; GOAL_LIMIT] {
+pub fn after_from(clause: &Clause, from: usize) -> [u32; GOAL_LIMIT] {
     let ties = ties(clause, from);
     let mut rows = [0; GOAL_LIMIT];
     for goal in (from..clause.goals).rev() {

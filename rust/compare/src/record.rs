@@ -195,12 +195,19 @@ pub struct Clause {
 impl Clause {
     #[inline(always)]
     pub fn read(bytes: &[u8]) -> Result<Clause, Refusal> {
+        Clause::read_each(bytes, |_| ())
+    }
+
+    /// The same; gives each goal that is met before a refusal.
+    #[inline(always)]
+    pub fn read_each(bytes: &[u8], mut each: impl FnMut(&Goal)) -> Result<Clause, Refusal> {
         let mut sets = [0; GOAL_LIMIT];
         let mut grounds = [0; GOAL_LIMIT];
         let mut listed = [0; VARIABLE_LIMIT];
         let header = scan(
             bytes,
             |goal| {
+                each(&goal);
                 sets[goal.number & 31] = goal.set;
                 grounds[goal.number & 31] = goal.ground;
             },

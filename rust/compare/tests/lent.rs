@@ -1,25 +1,31 @@
 //! A lent byte that is changed where it should have been kept makes an answer an error.
 
 use compare::build::Parts;
-use compare::cases::{Annotator, Reference, answer, hex};
-use compare::{Order, Refusal, Verdict};
+use compare::cases::{Annotator, LANDED, Reference, answer, hex};
+use compare::{GOAL_LIMIT, Head, Order, Refusal, Verdict};
 
-/// The hand-written annotator, but after a call that writes it changes the byte at this place of
-/// the buffer, counted from its end if `last`.
+/// The hand-written annotator, but after a call that writes it changes the byte or head at this
+/// place of the buffer or row, counted from its end if `last`.
 struct Careless {
     place: usize,
     last: bool,
 }
 
 impl Careless {
-    fn spoil(&self, out: &mut [u8], answer: Result<u32, Refusal>) -> Result<u32, Refusal> {
+    fn spoil<T>(
+        &self,
+        out: &mut [T],
+        value: T,
+        answer: Result<u32, Refusal>,
+    ) -> Result<u32, Refusal> {
         let place = if self.last { out.len() - 1 - self.place } else { self.place };
-        out[place] = b'1';
+        out[place] = value;
         answer
     }
 }
 
 impl Annotator for Careless {
+    type Head = Head;
     fn read(&self, record: &[u8]) -> Result<u32, Refusal> {
         Reference.read(record)
     }
@@ -34,14 +40,14 @@ impl Annotator for Careless {
     }
     fn form(&self, record: &[u8], out: &mut [u8]) -> Result<u32, Refusal> {
         let answer = Reference.form(record, out);
-        self.spoil(out, answer)
+        self.spoil(out, b'1', answer)
     }
     fn form_length(&self, record: &[u8]) -> Result<u32, Refusal> {
         Reference.form_length(record)
     }
     fn mel(&self, record: &[u8], out: &mut [u8]) -> Result<u32, Refusal> {
         let answer = Reference.mel(record, out);
-        self.spoil(out, answer)
+        self.spoil(out, b'1', answer)
     }
     fn goal_text(&self, record: &[u8], goal: u32) -> Result<(u32, u32), Refusal> {
         Reference.goal_text(record, goal)
@@ -52,6 +58,17 @@ impl Annotator for Careless {
     fn unread(&self, input: &[u8]) -> Option<usize> {
         Reference.unread(input)
     }
+    fn ticks(&self, record: &[u8]) -> Result<[u32; GOAL_LIMIT], Refusal> {
+        Reference.ticks(record)
+    }
+    fn start(&self, record: &[u8], heads: &mut [Head]) -> Result<u32, Refusal> {
+        let answer = Reference.start(record, heads);
+        self.spoil(heads, Head { goal: 1, left: 1 }, answer)
+    }
+    fn tick(&self, record: &[u8], heads: &mut [Head], ended: u32) -> Result<u32, Refusal> {
+        let answer = Reference.tick(record, heads, ended);
+        self.spoil(heads, Head { goal: 1, left: 1 }, answer)
+    }
 }
 
 #[test]
@@ -59,12 +76,12 @@ fn a_changed_byte_is_an_error() {
     let three = hex(&Parts::over(1, &[1, 1, 1]).record());
     let none = hex(&Parts::without_form(4).record());
     for (question, right) in [
-        (format!("form 3 {three} 4"), "refused 12 5"),
-        (format!("form 3 {three} 9"), "ok 5 312c322c33"),
-        (format!("form 3 {none} 9"), "refused 13 0 1 2 3 4"),
-        (format!("mel 3 {three} 18"), "refused 12 19"),
-        ("form 3 4c 9".to_string(), "refused 1 1"),
-        ("mel 3 4c 9".to_string(), "refused 1 1"),
+        (format!("form {LANDED} {three} 4"), "refused 12 5"),
+        (format!("form {LANDED} {three} 9"), "ok 5 312c322c33"),
+        (format!("form {LANDED} {none} 9"), "refused 13 0 1 2 3 4"),
+        (format!("mel {LANDED} {three} 18"), "refused 12 19"),
+        (format!("form {LANDED} 4c 9"), "refused 1 1"),
+        (format!("mel {LANDED} 4c 9"), "refused 1 1"),
     ] {
         assert_eq!(answer(&Reference, &question).as_deref(), Ok(right));
         let error = answer(&Careless { place: 0, last: true }, &question).unwrap_err();
@@ -73,5 +90,43 @@ fn a_changed_byte_is_an_error() {
             let error = answer(&Careless { place: 0, last: false }, &question).unwrap_err();
             assert!(error.contains(right) && error.contains("changed"), "{question}: {error}");
         }
+    }
+}
+
+#[test]
+fn a_changed_head_is_an_error() {
+    let record = hex(&Parts::over(1, &[1, 1, 1]).record());
+    for (question, right) in [
+        (format!("start {LANDED} 4c 2"), "refused 1 1"),
+        (format!("start {LANDED} {record} 9"), "refused 20 0"),
+        (format!("tick {LANDED} {record} 00000008 2 0 0 0 0"), "refused 20 0"),
+        (format!("tick {LANDED} {record} 00000000 9{}", " 0 0".repeat(9)), "refused 20 0"),
+    ] {
+        assert_eq!(answer(&Reference, &question).as_deref(), Ok(right));
+        for last in [false, true] {
+            let error = answer(&Careless { place: 0, last }, &question).unwrap_err();
+            assert!(error.contains(right) && error.contains("changed"), "{question}: {error}");
+        }
+    }
+    // A run that goes on for too long, is refused, or changes something behind its last tick.
+    for (heads, last, words) in
+        [(1, false, "refused 20"), (2, true, "refused 20"), (8, false, "refused 20")]
+    {
+        let question = format!("run {LANDED} {record} {heads}");
+        assert_eq!(answer(&Reference, &question).as_deref(), Ok("ok 3 3 3"));
+        let error = answer(&Careless { place: 0, last }, &question).unwrap_err();
+        assert!(error.contains(words), "{question}: {error}");
+    }
+}
+
+/// A row that is not as long as it says, or too long to be lent.
+#[test]
+fn a_question_without_its_row() {
+    for words in ["00000000", "00000000 x", "00000000 1 0", "00000000 1 0 0 0", "0000000g 0"] {
+        assert!(answer(&Reference, &format!("tick {LANDED} 4c {words}")).is_err(), "{words}");
+    }
+    for operation in ["start", "run"] {
+        let question = format!("{operation} {LANDED} 4c {}", u32::MAX);
+        assert!(answer(&Reference, &question).unwrap_err().contains("4294967295 heads"));
     }
 }

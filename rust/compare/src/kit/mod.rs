@@ -2,6 +2,7 @@
 //! where the paper prints an answer, it is stated here too and the two are compared.
 
 mod check;
+mod dispatch;
 mod order;
 mod paper;
 mod record;
@@ -99,6 +100,21 @@ impl Lines {
         self.ask(format!("unread {LANDED} {}", hex(input)));
     }
 
+    fn start(&mut self, record: &[u8], heads: usize) -> String {
+        self.ask(format!("start {LANDED} {} {heads}", hex(record)))
+    }
+
+    /// A tick of the row of heads, each with its goal and its ticks left.
+    fn tick(&mut self, record: &[u8], ended: u32, heads: &[(u32, u32)]) -> String {
+        let row: Vec<String> = heads.iter().map(|(goal, left)| format!(" {goal} {left}")).collect();
+        let row = row.concat();
+        self.ask(format!("tick {LANDED} {} {ended:08x} {}{row}", hex(record), heads.len()))
+    }
+
+    fn run(&mut self, parts: &Parts, heads: usize) -> String {
+        self.ask(format!("run {LANDED} {} {heads}", hex(&parts.record())))
+    }
+
     /// The text that a writer gives, with room enough.
     fn expect_form(&mut self, parts: &Parts, text: &str) {
         let question = format!("form {LANDED} {} 146", hex(&parts.record()));
@@ -187,6 +203,10 @@ pub fn files() -> Vec<File> {
         check::numbers(),
         check::verdicts(),
         texts::sheets(),
+        dispatch::starts(),
+        dispatch::ticks(),
+        dispatch::refused(),
+        dispatch::runs(),
         paper::samples(),
         paper::mixed(),
     ];
