@@ -27,19 +27,19 @@ from typing import NamedTuple
 
 root = os.path.join(os.path.dirname(os.path.abspath(__file__)), "..")
 sys.path.insert(0, os.path.join(root, "tools"))
-from kit_cases import about, cases, fail, read_text
+from kit_cases import about, cases, fail, product_version, read_text
 
 # the annotator's own files, in rust/compare/src
-FILES = ["lib.rs", "record.rs", "order.rs", "form.rs", "expression.rs", "mel.rs", "numbers.rs", "sheet.rs"]
+FILES = ["lib.rs", "record.rs", "order.rs", "form.rs", "expression.rs", "mel.rs", "numbers.rs", "sheet.rs", "dispatch.rs"]
 # the heading of planted_faults.txt under which faults of the operators stand that are none
 OPERATORS = "operators"
 # functions that no question of the kit reaches: one row of the order
 NOT_ASKED = ("pub fn after(bytes", "pub fn after_goal(")
 # the crate's other parts, which answering does not need
-LEFT_OUT = ("pub mod build;", "pub mod generate;", "pub mod kit;")
+LEFT_OUT = ("pub mod build;", "pub mod generate;", "pub mod kit;", "pub mod states;")
 RUSTC = ["rustc", "--edition", "2024", "-A", "warnings", "-C", "opt-level=0", "-C", "overflow-checks=off", "-C", "panic=abort"]
-# seconds of the processor for all questions of the kit; a right program takes less than one
-TIME = 2
+# seconds of the processor for all questions of the kit; a right program takes about one
+TIME = 4
 
 
 class Fault(NamedTuple):
@@ -182,6 +182,8 @@ class Copy:
 
     def __init__(self, folder):
         self.folder = folder
+        # what cargo tells a program of its version
+        self.environment = {**os.environ, "CARGO_PKG_VERSION": product_version()}
         for part in ("right", "src"):
             shutil.copytree(os.path.join(root, "rust/compare/src"), os.path.join(folder, part))
         self.write("lib.rs", self.right("lib.rs"))
@@ -201,7 +203,7 @@ class Copy:
     def built(self):
         """Whether it compiles."""
         words = [*RUSTC, "-C", "incremental=steps", "src/main.rs", "-o", "answers"]
-        return subprocess.run(words, cwd=self.folder, capture_output=True).returncode == 0
+        return subprocess.run(words, cwd=self.folder, env=self.environment, capture_output=True).returncode == 0
 
     def difference(self, questions, expected):
         """The name of the first case whose answer differs, and how; None if there is none."""
