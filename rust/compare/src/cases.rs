@@ -198,7 +198,7 @@ fn lend<H: Copy + From<Head> + Into<Head>, T>(
 }
 
 /// The row that `HEADS GOAL LEFT ..` says: the words behind the first four of a question.
-fn row_in(words: &[&str]) -> Result<Vec<Head>, String> {
+pub fn row_in(words: &[&str]) -> Result<Vec<Head>, String> {
     let numbers: Vec<u32> =
         words.get(4..).unwrap_or(&[]).iter().map_while(|word| word.parse().ok()).collect();
     match numbers.split_first() {
@@ -211,13 +211,15 @@ fn row_in(words: &[&str]) -> Result<Vec<Head>, String> {
     }
 }
 
+/// The row as `HEADS GOAL LEFT ..`.
+pub fn row_words(row: &[Head]) -> String {
+    let heads = row.iter().map(|head| format!(" {} {}", head.goal, head.left));
+    format!("{}{}", row.len(), heads.collect::<String>())
+}
+
 /// The ended goals and the row as an answer.
-fn dispatched(ended: u32, row: &[Head]) -> String {
-    let mut line = format!("ok {ended:08x} {}", row.len());
-    for head in row {
-        line += &format!(" {} {}", head.goal, head.left);
-    }
-    line
+pub fn dispatched(ended: u32, row: &[Head]) -> String {
+    format!("ok {ended:08x} {}", row_words(row))
 }
 
 /// A run from a start to the tick in which the last goal ends: that tick's number, the ticks of

@@ -2,7 +2,7 @@
 //! answer words that the hand-written one would give.
 
 use crate::cases::Annotator;
-use crate::{Order, Refusal, Verdict};
+use crate::{GOAL_LIMIT, Head, Order, Refusal, Verdict};
 
 /// The annotator of the static library.
 pub struct Proved;
@@ -37,7 +37,20 @@ fn refusal(refusal: lfj::Refusal) -> Refusal {
     Refusal { number: refusal.number, place: refusal.place, goals: refusal.goals }
 }
 
+impl From<Head> for lfj::dispatch::Head {
+    fn from(Head { goal, left }: Head) -> Self {
+        lfj::dispatch::Head { goal, left }
+    }
+}
+
+impl From<lfj::dispatch::Head> for Head {
+    fn from(lfj::dispatch::Head { goal, left }: lfj::dispatch::Head) -> Self {
+        Head { goal, left }
+    }
+}
+
 impl Annotator for Proved {
+    type Head = lfj::dispatch::Head;
     fn read(&self, record: &[u8]) -> Result<u32, Refusal> {
         lfj::read(record).map_err(refusal)
     }
@@ -78,5 +91,14 @@ impl Annotator for Proved {
     /// A library has no program.
     fn unread(&self, _: &[u8]) -> Option<usize> {
         None
+    }
+    fn ticks(&self, record: &[u8]) -> Result<[u32; GOAL_LIMIT], Refusal> {
+        lfj::facts(record).map(|facts| facts.ticks).map_err(refusal)
+    }
+    fn start(&self, record: &[u8], heads: &mut [Self::Head]) -> Result<u32, Refusal> {
+        lfj::dispatch::start(record, heads).map_err(refusal)
+    }
+    fn tick(&self, record: &[u8], heads: &mut [Self::Head], ended: u32) -> Result<u32, Refusal> {
+        lfj::dispatch::tick(record, heads, ended).map_err(refusal)
     }
 }

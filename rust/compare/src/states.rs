@@ -141,29 +141,29 @@ impl Course {
     /// Spoils an accepted state, for the one reason drawn where that is possible.
     pub fn damage(&self, random: &mut Random, state: &mut State) {
         let n = self.order.goals;
-        let goal = random.between(1, n);
-        let left = random.between(1, self.ticks_of(goal)) as u32;
-        let at = random.below(state.heads.len());
-        let other = state.heads[random.below(state.heads.len())];
-        let head = &mut state.heads[at];
+        let goal = random.between(1, n) as u32;
+        let left = random.between(1, self.ticks_of(goal as usize)) as u32;
+        let heads = &mut state.heads;
+        let (any, other) = (random.below(heads.len()), random.below(heads.len()));
+        // A busy head, if there is one.
+        let busy = (any..heads.len()).chain(0..any).find(|at| heads[*at].goal > 0).unwrap_or(any);
         match random.below(REASONS.len()) {
-            0 => state.heads.clear(),
-            1 => {
-                state.heads.resize(random.between(HEAD_LIMIT + 1, HEAD_LIMIT + 4), Head::default())
-            }
+            0 => heads.clear(),
+            1 => heads.resize(random.between(HEAD_LIMIT + 1, HEAD_LIMIT + 4), Head::default()),
             2 => {
-                head.goal =
-                    random.pick(&[n as u32 + 1, 33, 32 + goal as u32, 256 + goal as u32, u32::MAX])
+                let goal = random.pick(&[n as u32 + 1, 33, 32 + goal, 256 + goal, u32::MAX]);
+                heads[any] = Head { goal, left };
             }
-            3 => *head = other,
+            3 => heads[other] = heads[busy],
             // Ended or not, with a predecessor missing or not, as it falls.
-            4 | 9 => *head = Head { goal: goal as u32, left },
-            5 => head.left = 0,
+            4 | 9 => heads[any] = Head { goal, left },
+            5 => heads[busy].left = 0,
             6 => {
-                let over = head.goal.checked_sub(1).map_or(0, |goal| self.ticks[goal as usize]);
-                head.left = random.pick(&[over + 1, over + 256, over + 65_536, u32::MAX]);
+                let over =
+                    heads[busy].goal.checked_sub(1).map_or(0, |goal| self.ticks[goal as usize]);
+                heads[busy].left = random.pick(&[over + 1, over + 256, over + 65_536, u32::MAX]);
             }
-            7 => *head = Head { goal: 0, left: random.pick(&[1, left, 65_536, u32::MAX]) },
+            7 => heads[any] = Head { goal: 0, left: random.pick(&[1, left, 65_536, u32::MAX]) },
             8 => state.ended |= 1u32.checked_shl(random.between(n, GOAL_LIMIT) as u32).unwrap_or(0),
             _ => state.ended |= 1 << (goal - 1),
         }

@@ -1,13 +1,17 @@
-//! The proved annotator against the hand-written one, on seeded records and texts, valid
-//! and damaged, every operation, short buffers included.
+//! The proved annotator against the hand-written one, on seeded records, texts and rows of heads,
+//! valid and damaged, every operation, short buffers included.
 
 use compare::about;
 use compare::arrays::Arrays;
-use compare::cases::{Annotator, LANDED, Reference, answer, hex, refused, unhex};
+use compare::cases::{
+    Annotator, LANDED, Reference, answer, hex, refused, row_in, row_words, unhex,
+};
 use compare::generate::{self, Random};
 use compare::proved::{Proved, check_word, text_word, word};
-use compare::{FORM_LIMIT, Refusal, Verdict};
+use compare::states::{Course, REASONS, State};
+use compare::{FORM_LIMIT, HEAD_LIMIT, Head, Refusal, Verdict};
 use lfj::c;
+use lfj::dispatch::Head as LentHead;
 use std::fmt::Debug;
 use std::process::ExitCode;
 use std::time::Instant;
@@ -23,6 +27,12 @@ Status 0 if there is no difference and every refusal, verdict, form and no form 
 const MARGIN: usize = 64;
 /// Longer than every text an operation writes, `MARGIN`s included.
 const BUFFER: usize = 1 << 18;
+/// What stands on each side of a lent row of heads, and how many of it.
+const BESIDE: LentHead = LentHead { goal: 0xa5a5_a5a5, left: 0x5a5a_5a5a };
+const HEAD_MARGIN: usize = 8;
+/// The most ticks of a run that is compared tick by tick; a longer one is compared in those ticks
+/// in which something besides work may happen.
+const WHOLE_RUN: u32 = 400;
 /// After this many differences the run ends.
 const ENOUGH: usize = 10;
 
@@ -73,11 +83,17 @@ struct Met {
     accepted: usize,
     /// Accepted ones of version 2.
     wide: usize,
-    refusals: [usize; 20],
+    refusals: [usize; 21],
     same: usize,
     differs: usize,
     form: usize,
     no_form: usize,
+    /// Ticks that are accepted, and those that 20 refuses for one reason alone.
+    ticks: usize,
+    reasons: [usize; REASONS.len()],
+    /// Runs to their end, and those of them compared in every tick.
+    runs: usize,
+    whole_runs: usize,
 }
 
 impl Met {
@@ -95,15 +111,21 @@ impl Met {
             ("no form".to_string(), self.no_form),
             ("same".to_string(), self.same),
             ("differs".to_string(), self.differs),
+            ("ticks".to_string(), self.ticks),
+            ("runs".to_string(), self.runs),
+            ("runs tick by tick".to_string(), self.whole_runs),
         ];
-        for number in 1..=19 {
+        for number in 1..self.refusals.len() {
             all.push((format!("refusal {number}"), self.refusals[number]));
+        }
+        for (reason, count) in REASONS.iter().zip(self.reasons) {
+            all.push((format!("20: {reason}"), count));
         }
         println!("records {:>20}", self.records);
         let percent = 100 * self.accepted / self.records.max(1);
         println!("accepted {:>19}  ({percent} in 100)", self.accepted);
         for (name, count) in &all {
-            println!("{name:<12} {count:>15}");
+            println!("{name:<26} {count:>9}");
         }
         all.into_iter().filter(|(_, count)| *count == 0).map(|(name, _)| name).collect()
     }
@@ -209,6 +231,7 @@ impl Run {
             self.hold_word(given, text_word(answer), || question("text"));
         }
         self.arrays(record, random.word());
+        self.dispatch(random, record);
         let form = self.form(random, record);
         self.length(record);
         self.mel(random, record);
@@ -238,6 +261,101 @@ impl Run {
         if proved != hand {
             self.report(question(), format!("{proved:x?}"), format!("{hand:x?}"));
         }
+    }
+
+    /// The dispatcher: a start, ticks of accepted and of damaged states, now and then a whole run.
+    fn dispatch(&mut self, random: &mut Random, record: &[u8]) {
+        let heads = random.between(0, HEAD_LIMIT + 1);
+        let head = Head { goal: random.word() as u32, left: random.below(3) as u32 };
+        self.lend(record, &State { heads: vec![head; heads], ended: 0 }, None);
+        let Ok(course) = Course::of(record) else {
+            // The record's refusals come first, whatever the state.
+            let ended = random.word() as u32;
+            self.lend(record, &State { heads: vec![head; heads], ended }, Some(ended));
+            return;
+        };
+        let heads = random.between(1, HEAD_LIMIT);
+        for of_a_run in [true, false] {
+            let mut state = match of_a_run {
+                true => course.on_a_run(random, heads),
+                false => course.accepted(random, heads),
+            };
+            self.tick(record, &course, &state);
+            course.damage(random, &mut state);
+            self.tick(record, &course, &state);
+        }
+        if random.chance(1, 8) {
+            self.run(record, &course, heads);
+        }
+    }
+
+    /// A tick of the state, counted.
+    fn tick(&mut self, record: &[u8], course: &Course, state: &State) {
+        self.met.ticks += self.lend(record, state, Some(state.ended)) as usize;
+        if let [reason] = course.reasons(state)[..] {
+            self.met.reasons[reason] += 1;
+        }
+    }
+
+    /// A run to the tick behind its last one.
+    fn run(&mut self, record: &[u8], course: &Course, heads: usize) {
+        let whole = course.ticks.iter().sum::<u32>() <= WHOLE_RUN;
+        let mut state = course.start(heads);
+        loop {
+            self.tick(record, course, &state);
+            let Ok((next, quiet)) = course.ticked(&state) else { return };
+            if next == state {
+                break;
+            }
+            state = next;
+            if !whole {
+                Course::later(&mut state, quiet);
+            }
+        }
+        self.met.runs += 1;
+        self.met.whole_runs += whole as usize;
+    }
+
+    /// A start, or a tick with these ended goals, of both sides from one row: the answer, its word
+    /// with all bits, and the row with the heads around it. Says whether it is accepted.
+    fn lend(&mut self, record: &[u8], state: &State, ended: Option<u32>) -> bool {
+        let lent = || -> Vec<LentHead> {
+            let row = state.heads.iter().map(|head| LentHead::from(*head));
+            [vec![BESIDE; HEAD_MARGIN], row.collect(), vec![BESIDE; HEAD_MARGIN]].concat()
+        };
+        let (start, n, k) = (record.as_ptr(), record.len(), state.heads.len());
+        let row = HEAD_MARGIN..HEAD_MARGIN + k;
+        let (mut proved, mut raw, mut hand) = (lent(), lent(), state.heads.clone());
+        let heads = raw[row.clone()].as_mut_ptr();
+        // SAFETY of both calls: the pointers are those of slices, and the row is one of its own.
+        let (given, answer, wanted) = match ended {
+            None => (
+                unsafe { c::lfj_start(start, n, heads, k) },
+                Proved.start(record, &mut proved[row.clone()]),
+                Reference.start(record, &mut hand),
+            ),
+            Some(ended) => (
+                unsafe { c::lfj_tick(start, n, heads, k, ended) },
+                Proved.tick(record, &mut proved[row.clone()], ended),
+                Reference.tick(record, &mut hand, ended),
+            ),
+        };
+        let question = || match ended {
+            None => format!("start {LANDED} {} {k}", hex(record)),
+            Some(ended) => {
+                format!("tick {LANDED} {} {ended:08x} {}", hex(record), row_words(&state.heads))
+            }
+        };
+        let wanted = self.hold(answer, wanted, question);
+        self.hold_word(given, word(wanted), question);
+        let mut left = lent();
+        left[row].iter_mut().zip(&hand).for_each(|(head, by_hand)| *head = (*by_hand).into());
+        for given in [proved, raw] {
+            if given != left {
+                self.report(question(), format!("left {given:?}"), format!("left {left:?}"));
+            }
+        }
+        wanted.is_ok()
     }
 
     /// Gives the form, empty if there is none.
@@ -332,7 +450,7 @@ fn words(question: &str) -> Option<(u64, u64)> {
     let record = unhex(fields.get(2)?).ok()?;
     let number = || fields.get(3)?.parse::<u32>().ok();
     let (start, n) = (record.as_ptr(), record.len());
-    let mut out = vec![0u8; number().unwrap_or(0) as usize];
+    let mut out = vec![0u8; number().filter(|_| fields[0] != "tick").unwrap_or(0) as usize];
     // SAFETY of all calls: the pointers are those of vectors, and the buffer is one of its own.
     Some(match fields[0] {
         "read" => (unsafe { c::lfj_read(start, n) }, word(Reference.read(&record))),
@@ -357,6 +475,24 @@ fn words(question: &str) -> Option<(u64, u64)> {
             let text = unhex(fields.get(3)?).ok()?;
             let given = unsafe { c::lfj_check(start, n, text.as_ptr(), text.len()) };
             (given, check_word(Reference.check(&record, &text)))
+        }
+        "start" | "tick" => {
+            let (mut hand, ended) = match fields[0] {
+                "start" => (vec![Head::default(); number()? as usize], None),
+                _ => (row_in(&fields).ok()?, Some(u32::from_str_radix(fields.get(3)?, 16).ok()?)),
+            };
+            let mut row: Vec<LentHead> = hand.iter().map(|head| (*head).into()).collect();
+            let (heads, k) = (row.as_mut_ptr(), row.len());
+            match ended {
+                None => {
+                    let given = unsafe { c::lfj_start(start, n, heads, k) };
+                    (given, word(Reference.start(&record, &mut hand)))
+                }
+                Some(ended) => {
+                    let given = unsafe { c::lfj_tick(start, n, heads, k, ended) };
+                    (given, word(Reference.tick(&record, &mut hand, ended)))
+                }
+            }
         }
         _ => return None,
     })

@@ -4,32 +4,35 @@ use super::paper::whole_case;
 use super::record::FAULTS;
 use super::{Lines, among, every_order, waiting};
 use crate::build::Parts;
+use crate::cases::dispatched;
 use crate::generate::{self, Random};
 use crate::numbers::first_goals;
 use crate::states::{Course, State};
-use crate::{HEAD_LIMIT, TICK_LIMIT};
+use crate::{HEAD_LIMIT, Head, TICK_LIMIT};
 
-type Row<'a> = &'a [(u32, u32)];
+/// A head: its goal and its ticks left.
+type Pair = (u32, u32);
 
-const IDLE: (u32, u32) = (0, 0);
+const IDLE: Pair = (0, 0);
+
+fn row(heads: &[Pair]) -> Vec<Head> {
+    heads.iter().map(|(goal, left)| Head { goal: *goal, left: *left }).collect()
+}
 
 impl Lines {
+    fn tick_of(&mut self, parts: &Parts, ended: u32, heads: &[Pair]) -> String {
+        self.tick(&parts.record(), ended, &row(heads))
+    }
+
     /// A tick and the ended goals and the row that it leaves.
-    fn accept(&mut self, parts: &Parts, ended: u32, heads: Row, after: u32, left: Row) {
-        let given = self.tick(&parts.record(), ended, heads);
-        let row: Vec<String> = left.iter().map(|(goal, left)| format!(" {goal} {left}")).collect();
-        assert_eq!(given, format!("ok {after:08x} {}{}", left.len(), row.concat()), "{heads:?}");
+    fn accept(&mut self, parts: &Parts, ended: u32, heads: &[Pair], after: u32, left: &[Pair]) {
+        let given = self.tick_of(parts, ended, heads);
+        assert_eq!(given, dispatched(after, &row(left)), "{ended:b} {heads:?}");
     }
 
     /// A tick that 20 refuses.
-    fn refuse(&mut self, parts: &Parts, ended: u32, heads: Row) {
-        assert_eq!(self.tick(&parts.record(), ended, heads), "refused 20 0", "{ended:b} {heads:?}");
-    }
-
-    fn state(&mut self, record: &[u8], state: &State) -> String {
-        let heads: Vec<(u32, u32)> =
-            state.heads.iter().map(|head| (head.goal, head.left)).collect();
-        self.tick(record, state.ended, &heads)
+    fn refuse(&mut self, parts: &Parts, ended: u32, heads: &[Pair]) {
+        assert_eq!(self.tick_of(parts, ended, heads), "refused 20 0", "{ended:b} {heads:?}");
     }
 
     /// A run whose last working tick, total ticks and heaviest chain are known.
@@ -59,12 +62,12 @@ fn set(goals: &[u32]) -> u32 {
 }
 
 /// A row of idle heads.
-fn idle(heads: usize) -> Vec<(u32, u32)> {
+fn idle(heads: usize) -> Vec<Pair> {
     vec![IDLE; heads]
 }
 
 /// The row with one head changed.
-fn with_head(heads: Row, at: usize, head: (u32, u32)) -> Vec<(u32, u32)> {
+fn with_head(heads: &[Pair], at: usize, head: Pair) -> Vec<Pair> {
     let mut changed = heads.to_vec();
     changed[at] = head;
     changed
@@ -134,7 +137,7 @@ pub(super) fn ticks() -> Lines {
             0 => course.on_a_run(&mut random, heads),
             _ => course.accepted(&mut random, heads),
         };
-        assert!(lines.state(&record, &state).starts_with("ok "));
+        assert!(lines.tick(&record, state.ended, &state.heads).starts_with("ok "));
     }
     lines
 }
@@ -236,7 +239,7 @@ fn states_off_runs(lines: &mut Lines) {
     lines.accept(&five(), 0b10000, &[IDLE, (2, 2)], 0b10000, &[(1, 2), (2, 1)]);
     lines.note("other-left", "any ticks left from 1 to the goal's");
     for left in 1..=5 {
-        lines.tick(&four.record(), 0, &[(1, 6 - left), (3, left)]);
+        lines.tick_of(&four, 0, &[(1, 6 - left), (3, left)]);
     }
     lines.note("more-heads", "more heads than goals");
     lines.accept(&apart(&[2]), 0, &idle(8), 0, &with_head(&idle(8), 0, (1, 1)));
@@ -268,15 +271,15 @@ fn tick_clauses(lines: &mut Lines) {
     lines.accept(&none, 0b0010, &[(1, 1), (4, 1)], 0b1011, &idle(2));
     lines.accept(&none, 0b1011, &idle(2), 0b1011, &[(3, 1), IDLE]);
     let large = Parts::without_form(32);
-    lines.tick(&large.record(), first_goals(28), &idle(8));
-    lines.tick(&large.record(), first_goals(30), &idle(8));
+    lines.tick_of(&large, first_goals(28), &idle(8));
+    lines.tick_of(&large, first_goals(30), &idle(8));
     lines.note("each-goal", "each of 32 goals: taken when it alone is left, on a head, its bit");
     let many = apart(&[2; 32]);
     for goal in 1..=32 {
         let others = !set(&[goal]);
         lines.accept(&many, others, &[IDLE, IDLE], others, &[(goal, 1), IDLE]);
         lines.accept(&many, others, &[IDLE, (goal, 1)], u32::MAX, &idle(2));
-        lines.tick(&many.record(), 0, &[(goal, 2), IDLE, IDLE]);
+        lines.tick_of(&many, 0, &[(goal, 2), IDLE, IDLE]);
     }
     lines.note("each-wait", "each goal that waits for goal 1, and each for which goal 32 waits");
     for goal in 2..=31 {
@@ -296,7 +299,7 @@ fn in_full(lines: &mut Lines) {
         let record = parts.lasting(&[2, 2, 2]).record();
         for ended in 0..8 {
             for heads in [[IDLE, IDLE], [(2, 1), IDLE], [IDLE, (3, 1)], [(3, 2), (1, 2)]] {
-                lines.tick(&record, ended, &heads);
+                lines.tick(&record, ended, &row(&heads));
             }
         }
     }
@@ -307,7 +310,7 @@ fn in_full(lines: &mut Lines) {
         for ended in 0..16 {
             let state = State { ended, ..course.start(3) };
             if course.reasons(&state).is_empty() {
-                lines.state(&record, &state);
+                lines.tick(&record, state.ended, &state.heads);
             }
         }
     }
@@ -326,7 +329,7 @@ pub(super) fn refused() -> Lines {
     lines.note("record-first", "a refused record: its refusal, not 20, whatever the state");
     for record in faulty_records() {
         for (ended, heads) in [(0, vec![]), (0, idle(2)), (0, idle(9)), (u32::MAX, vec![(9, 0)])] {
-            assert!(!lines.tick(&record, ended, &heads).starts_with("refused 20"));
+            assert!(!lines.tick(&record, ended, &row(&heads)).starts_with("refused 20"));
         }
     }
     lines.note("seeded", "seeded clauses and states, damaged");
@@ -336,7 +339,7 @@ pub(super) fn refused() -> Lines {
         let heads = random.between(1, HEAD_LIMIT);
         let mut state = course.accepted(&mut random, heads);
         course.damage(&mut random, &mut state);
-        lines.state(&record, &state);
+        lines.tick(&record, state.ended, &state.heads);
     }
     lines
 }
@@ -345,7 +348,7 @@ pub(super) fn refused() -> Lines {
 fn rows(lines: &mut Lines) {
     lines.note("heads", "a row of 0 or more than 8 heads, also where all goals have ended");
     for heads in [1, 2, 7, 8] {
-        assert!(lines.tick(&five().record(), 0, &idle(heads)).starts_with("ok"));
+        assert!(lines.tick_of(&five(), 0, &idle(heads)).starts_with("ok"));
     }
     for heads in [0, 9, 10, 16, 255, 256, 257, 264] {
         lines.refuse(&five(), 0, &idle(heads));
@@ -357,10 +360,10 @@ fn rows(lines: &mut Lines) {
 
 /// Asks for a tick with the head at the first, the last and another place of rows of several
 /// lengths, whose other heads are idle: all are accepted or all are refused.
-fn at_each(lines: &mut Lines, parts: &Parts, ended: u32, head: (u32, u32), good: bool) {
+fn at_each(lines: &mut Lines, parts: &Parts, ended: u32, head: Pair, good: bool) {
     for heads in [1, 2, 8] {
         for at in [0, heads / 2, heads - 1] {
-            let given = lines.tick(&parts.record(), ended, &with_head(&idle(heads), at, head));
+            let given = lines.tick_of(&parts, ended, &with_head(&idle(heads), at, head));
             let wanted = if good { "ok " } else { "refused 20 0" };
             assert!(given.starts_with(wanted), "{ended:b} {head:?} at {at} of {heads}: {given}");
         }
@@ -385,8 +388,8 @@ fn goals_on_heads(lines: &mut Lines) {
         "a goal on two heads, any two of eight, with the same ticks left or not",
     );
     let many = apart(&[5; 9]);
-    let full: Vec<(u32, u32)> = (1..=8).map(|goal| (goal, 3)).collect();
-    assert!(lines.tick(&many.record(), 0, &full).starts_with("ok"));
+    let full: Vec<Pair> = (1..=8).map(|goal| (goal, 3)).collect();
+    assert!(lines.tick_of(&many, 0, &full).starts_with("ok"));
     for one in 0..8 {
         for other in one + 1..8 {
             lines.refuse(&many, 0, &with_head(&full, other, full[one]));
@@ -437,7 +440,7 @@ fn ended_goals(lines: &mut Lines) {
     lines.note("ended-above-n", "an ended goal above n: each bit, alone and with all goals");
     for goals in [1u32, 5, 31] {
         let parts = apart(&vec![2; goals as usize]);
-        assert!(lines.tick(&parts.record(), 1 << (goals - 1), &idle(2)).starts_with("ok"));
+        assert!(lines.tick_of(&parts, 1 << (goals - 1), &idle(2)).starts_with("ok"));
         for bit in goals..32 {
             lines.refuse(&parts, 1 << bit, &idle(2));
             lines.refuse(&parts, first_goals(goals as usize) | 1 << bit, &idle(2));
@@ -446,7 +449,7 @@ fn ended_goals(lines: &mut Lines) {
     }
     lines.note("ended-32", "goal 32, the highest bit");
     let many = apart(&[2; 32]);
-    assert!(lines.tick(&many.record(), 1 << 31, &idle(2)).starts_with("ok"));
+    assert!(lines.tick_of(&many, 1 << 31, &idle(2)).starts_with("ok"));
     lines.refuse(&apart(&[2; 31]), 1 << 31, &idle(2));
 }
 
@@ -468,7 +471,7 @@ fn predecessors(lines: &mut Lines) {
     for (ended, good) in
         [(0b00111, true), (0b00100, false), (0b00101, false), (0b00110, false), (0b01011, false)]
     {
-        let given = lines.tick(&five.record(), ended, &idle(2));
+        let given = lines.tick_of(&five, ended, &idle(2));
         assert_eq!(given.starts_with("ok"), good, "{ended:b}");
     }
     lines.refuse(&five, 0b00101, &[(2, 1), IDLE]);
@@ -478,10 +481,10 @@ fn predecessors(lines: &mut Lines) {
     for ended in 0..16u32 {
         // In a chain the first goals end first.
         let good = ended & (ended + 1) == 0;
-        assert_eq!(lines.tick(&four.record(), ended, &idle(2)).starts_with("ok"), good);
+        assert_eq!(lines.tick_of(&four, ended, &idle(2)).starts_with("ok"), good);
         for goal in 1..=4 {
             let next = good && ended + 1 == 1 << (goal - 1);
-            let given = lines.tick(&four.record(), ended, &[IDLE, (goal, 1)]);
+            let given = lines.tick_of(&four, ended, &[IDLE, (goal, 1)]);
             assert_eq!(given.starts_with("ok"), next, "{ended:b} {goal}");
         }
     }

@@ -9,8 +9,9 @@ mod record;
 mod texts;
 mod version_2;
 
+use crate::Head;
 use crate::build::Parts;
-use crate::cases::{LANDED, Reference, answer, hex};
+use crate::cases::{LANDED, Reference, answer, hex, row_words};
 use std::collections::HashSet;
 
 pub use texts::at_the_limit;
@@ -104,11 +105,8 @@ impl Lines {
         self.ask(format!("start {LANDED} {} {heads}", hex(record)))
     }
 
-    /// A tick of the row of heads, each with its goal and its ticks left.
-    fn tick(&mut self, record: &[u8], ended: u32, heads: &[(u32, u32)]) -> String {
-        let row: Vec<String> = heads.iter().map(|(goal, left)| format!(" {goal} {left}")).collect();
-        let row = row.concat();
-        self.ask(format!("tick {LANDED} {} {ended:08x} {}{row}", hex(record), heads.len()))
+    fn tick(&mut self, record: &[u8], ended: u32, heads: &[Head]) -> String {
+        self.ask(format!("tick {LANDED} {} {ended:08x} {}", hex(record), row_words(heads)))
     }
 
     fn run(&mut self, parts: &Parts, heads: usize) -> String {
