@@ -4,7 +4,10 @@
 use compare::about;
 use compare::build::Parts;
 use compare::generate::{Random, clause, padded};
+use compare::states::{Course, State};
+use compare::{HEAD_LIMIT, Head};
 use lfj::c;
+use lfj::dispatch::Head as LentHead;
 use std::hint::black_box;
 use std::time::{Duration, Instant};
 
@@ -30,6 +33,33 @@ struct Input {
     goal: u32,
     out: Vec<u8>,
     rows: [u32; compare::GOAL_LIMIT],
+    heads: Heads,
+}
+
+/// A row of heads for each side, and the state that a tick is called with: before each call the
+/// row is made that of the state.
+struct Heads {
+    hand: Vec<Head>,
+    hand_state: Vec<Head>,
+    lent: Vec<LentHead>,
+    lent_state: Vec<LentHead>,
+    ended: u32,
+    /// All goals of the clause.
+    all: u32,
+}
+
+impl Heads {
+    fn of(state: State, goals: usize) -> Heads {
+        let lent_state: Vec<LentHead> = state.heads.iter().map(|head| (*head).into()).collect();
+        Heads {
+            hand: state.heads.clone(),
+            hand_state: state.heads,
+            lent: lent_state.clone(),
+            lent_state,
+            ended: state.ended,
+            all: u32::MAX >> (compare::GOAL_LIMIT - goals),
+        }
+    }
 }
 
 /// An operation from both sides. Each call gives one number, made of its answer.
@@ -111,7 +141,56 @@ const CHECK: Operation = Operation {
     },
 };
 
-const ALL: [&Operation; 7] = [&READ, &ORDER, &FORM, &LENGTH, &MEL, &TEXT, &CHECK];
+const START: Operation = Operation {
+    name: "start",
+    proved: |i| lent_start(i),
+    hand: |i| word(compare::start(&i.record, &mut i.heads.hand)),
+};
+const TICK: Operation = Operation {
+    name: "tick",
+    proved: |i| {
+        i.heads.lent.copy_from_slice(&i.heads.lent_state);
+        lent_tick(i, i.heads.ended)
+    },
+    hand: |i| {
+        i.heads.hand.copy_from_slice(&i.heads.hand_state);
+        word(compare::tick(&i.record, &mut i.heads.hand, i.heads.ended))
+    },
+};
+/// A start, and ticks until all goals have ended: how many. Its time is that of one of them.
+const RUN: Operation = Operation {
+    name: "run",
+    proved: |i| {
+        let mut ended = lent_start(i) as u32;
+        let mut ticks = 0;
+        while ended != i.heads.all {
+            ended = lent_tick(i, ended) as u32;
+            ticks += 1;
+        }
+        ticks
+    },
+    hand: |i| {
+        let mut ended = word(compare::start(&i.record, &mut i.heads.hand)) as u32;
+        let mut ticks = 0;
+        while ended != i.heads.all {
+            ended = word(compare::tick(&i.record, &mut i.heads.hand, ended)) as u32;
+            ticks += 1;
+        }
+        ticks
+    },
+};
+
+fn lent_start(i: &mut Input) -> u64 {
+    let heads = &mut i.heads.lent;
+    unsafe { c::lfj_start(i.record.as_ptr(), i.record.len(), heads.as_mut_ptr(), heads.len()) }
+}
+
+fn lent_tick(i: &mut Input, ended: u32) -> u64 {
+    let (record, n, heads) = (i.record.as_ptr(), i.record.len(), &mut i.heads.lent);
+    unsafe { c::lfj_tick(record, n, heads.as_mut_ptr(), heads.len(), ended) }
+}
+
+const ALL: [&Operation; 9] = [&READ, &ORDER, &FORM, &LENGTH, &MEL, &TEXT, &CHECK, &START, &TICK];
 
 /// Nanoseconds a call, of `calls` calls.
 #[inline(never)]
@@ -164,8 +243,31 @@ fn input(parts: &Parts, text: Option<&[u8]>, room: usize) -> Input {
             (1..=goals).map(|goal| goal.to_string()).collect::<Vec<_>>().join(",").into_bytes()
         }
     };
+    let heads = Heads::of(half_way(&record, HEAD_LIMIT), goals);
     let rows = [0; compare::GOAL_LIMIT];
-    Input { record, text, goal: goals as u32 / 2 + 1, out: vec![0; room], rows }
+    Input { record, text, goal: goals as u32 / 2 + 1, out: vec![0; room], rows, heads }
+}
+
+/// The state of a run of so many heads behind the tick in which half of the goals have ended; that
+/// of a start where the record is refused.
+fn half_way(record: &[u8], heads: usize) -> State {
+    let mut state = State { heads: vec![Head::default(); heads], ended: 0 };
+    let Ok(course) = Course::of(record) else { return state };
+    while let Ok((next, quiet)) = course.ticked(&state) {
+        state = next;
+        if 2 * state.ended.count_ones() as usize >= course.order.goals {
+            break;
+        }
+        Course::later(&mut state, quiet);
+    }
+    state
+}
+
+/// A clause of 32 goals in four groups of eight, one group behind the other.
+fn grouped() -> Parts {
+    let pairs = (1..=32).flat_map(|i| (i + 1..=32).map(move |j| (i, j)));
+    let waits: Vec<(usize, usize)> = pairs.filter(|(i, j)| (i - 1) / 8 < (j - 1) / 8).collect();
+    Parts::with_waits(32, &waits).expect("few pairs")
 }
 
 /// A clause whose form nests: 1 waits for nobody, and so on inwards, as the longest form does.
@@ -216,9 +318,26 @@ fn lines() -> Vec<Line> {
     for operation in [&READ, &ORDER, &AFTER, &FORM, &MEL] {
         more(operation, "version 2, without a form", input(&without, None, 1 << 16));
     }
+    // With ticks some heads are busy half-way through a run, and some idle.
+    let ticks: Vec<u16> = (0..32).map(|goal| 1 + goal * 7 % 11).collect();
+    for (parts, clause) in [
+        (nested(32), "durations, with a form"),
+        (grouped(), "durations, four groups"),
+        (Parts::without_form(32), "durations, without a form"),
+    ] {
+        let parts = parts.lasting(&ticks);
+        for operation in [&START, &TICK] {
+            more(operation, &format!("version 2, {clause}"), input(&parts, None, 0));
+        }
+        for heads in [2, HEAD_LIMIT] {
+            let state = State { heads: vec![Head::default(); heads], ended: 0 };
+            let input = Input { heads: Heads::of(state, 32), ..input(&parts, None, 0) };
+            more(&RUN, &format!("{heads} heads, {clause}"), input);
+        }
+    }
     let longest = Parts::longest_record();
     let wide = Parts::longest_wide_record();
-    for operation in [&READ, &ORDER, &TEXT] {
+    for operation in [&READ, &ORDER, &TEXT, &START, &TICK] {
         more(operation, "the longest record of version 1", input(&longest, None, 0));
         more(operation, "the longest record of version 2", input(&wide, None, 0));
     }
@@ -341,7 +460,10 @@ fn main() {
         LONG.batches
     );
     println!("process, on the same record and into the same buffer, which is not cleared between");
-    println!("calls. Both are release builds. The ratio is proved / hand-written.");
+    println!(
+        "calls. Both are release builds. The ratio is proved / hand-written. A tick is called on"
+    );
+    println!("a row of 8 heads half-way through a run; of a run the time of a tick is given.");
     println!();
     println!("| operation | goals | clause | proved | hand-written | ratio |");
     println!("|---|---:|---|---:|---:|---:|");
@@ -355,7 +477,10 @@ fn main() {
             println!("{}: the answers differ, {proved:#x} and {hand:#x}", line.title());
             std::process::exit(1);
         }
+        // A run answers with its number of ticks.
+        let each = if line.operation.name == RUN.name { proved as f64 } else { 1.0 };
         let (proved, hand) = measure(line.operation, &mut line.input, &LONG);
+        let (proved, hand) = (proved / each, hand / each);
         println!(
             "| {} | {} | {} | {proved:.1} | {hand:.1} | {:.2}x",
             line.operation.name,

@@ -7,6 +7,7 @@
 use compare::about;
 use compare::build::Parts;
 use compare::generate::padded;
+use lfj::dispatch::{Head, start, tick};
 use lfj::{Refusal, Verdict};
 use std::process::ExitCode;
 
@@ -27,6 +28,10 @@ fn no_form() -> Refusal {
 
 fn short(length: u32) -> Refusal {
     Refusal { number: 12, place: length, goals: [0; 4] }
+}
+
+fn no_row() -> Refusal {
+    Refusal { number: 20, place: 0, goals: [0; 4] }
 }
 
 fn longest_form() -> Vec<u8> {
@@ -120,6 +125,26 @@ const CALLS: &[Call] = &[
         let text = [b"1,".repeat(255), b"12".to_vec()].concat();
         let refusal = Refusal { number: 17, place: 2, goals: [0; 4] };
         lfj::check(&longest_form(), &text) == Err(refusal)
+    }),
+    ("start, 8 heads, version 2, 1,910 bytes", || {
+        let mut heads = vec![Head { goal: 1, left: 1 }; 8];
+        start(&longest_wide_record(), &mut heads) == Ok(0) && heads == [Head::default(); 8]
+    }),
+    ("start, 9 heads", || start(&longest_form(), &mut vec![Head::default(); 9]) == Err(no_row())),
+    ("tick, 8 heads, version 2, 1,910 bytes", || {
+        let mut heads = vec![Head::default(); 8];
+        let answer = tick(&longest_wide_record(), &mut heads, 1);
+        let taken = [Head { goal: 2, left: 59_999 }, Head { goal: 3, left: 59_999 }];
+        answer == Ok(1) && heads[..2] == taken && heads[2..] == [Head::default(); 6]
+    }),
+    ("tick, 8 heads, 32 goals without a form", || {
+        let mut heads = vec![Head::default(); 8];
+        let ended = u32::MAX >> 4;
+        tick(&without_form(), &mut heads, ended) == Ok(ended | 3 << 28)
+    }),
+    ("tick, refused", || {
+        let mut heads = vec![Head { goal: 32, left: 1 }; 8];
+        tick(&longest_wide_record(), &mut heads, 0) == Err(no_row())
     }),
 ];
 
