@@ -55,7 +55,7 @@ fn busy(clause: &Clause, ticks: &[u32; GOAL_LIMIT], heads: &[Head], ended: u32) 
         if head.goal as usize > clause.goals {
             return None;
         }
-        let goal = head.goal as usize - 1 & 31;
+        let goal = (head.goal as usize - 1) & 31;
         if taken >> goal & 1 == 1 || head.left == 0 || head.left > ticks[goal] {
             return None;
         }

@@ -3,6 +3,7 @@
 
 use compare::build::Parts;
 use compare::generate::{self, Random};
+use compare::kit::every_order;
 use compare::states::{Course, State};
 use compare::{Head, Order, Refusal};
 use std::collections::BTreeSet;
@@ -151,23 +152,6 @@ impl Clause {
 
 fn members(set: u32) -> Set {
     (1..=32).filter(|goal| set >> (goal - 1) & 1 == 1).collect()
-}
-
-/// One clause for each order of so many goals.
-fn every_order(goals: usize) -> Vec<Parts> {
-    let pairs: Vec<(usize, usize)> =
-        (1..=goals).flat_map(|i| (i + 1..=goals).map(move |j| (i, j))).collect();
-    let mut seen = BTreeSet::new();
-    let mut found = Vec::new();
-    for chosen in 0..1u32 << pairs.len() {
-        let picked = pairs.iter().enumerate().filter(|(at, _)| chosen >> at & 1 == 1);
-        let waits: Vec<(usize, usize)> = picked.map(|(_, pair)| *pair).collect();
-        let parts = Parts::with_waits(goals, &waits).unwrap();
-        if seen.insert(compare::order(&parts.record()).unwrap().rows) {
-            found.push(parts);
-        }
-    }
-    found
 }
 
 /// Every row of `count` of the heads.

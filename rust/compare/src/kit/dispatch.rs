@@ -363,7 +363,7 @@ fn rows(lines: &mut Lines) {
 fn at_each(lines: &mut Lines, parts: &Parts, ended: u32, head: Pair, good: bool) {
     for heads in [1, 2, 8] {
         for at in [0, heads / 2, heads - 1] {
-            let given = lines.tick_of(&parts, ended, &with_head(&idle(heads), at, head));
+            let given = lines.tick_of(parts, ended, &with_head(&idle(heads), at, head));
             let wanted = if good { "ok " } else { "refused 20 0" };
             assert!(given.starts_with(wanted), "{ended:b} {head:?} at {at} of {heads}: {given}");
         }

@@ -140,7 +140,7 @@ fn all_pairs(goals: usize) -> Vec<(usize, usize)> {
 }
 
 /// One clause for each order on so many goals that waits can give.
-fn every_order(goals: usize) -> Vec<Parts> {
+pub fn every_order(goals: usize) -> Vec<Parts> {
     let all = all_pairs(goals);
     let mut seen = HashSet::new();
     let mut clauses = Vec::new();
