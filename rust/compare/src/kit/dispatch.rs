@@ -128,6 +128,7 @@ pub(super) fn ticks() -> Lines {
     states_off_runs(&mut lines);
     tick_clauses(&mut lines);
     in_full(&mut lines);
+    example_run(&mut lines);
     lines.note("seeded", "seeded clauses and states, of runs and not");
     let mut random = Random::new(31);
     for case in 0..260 {
@@ -140,6 +141,46 @@ pub(super) fn ticks() -> Lines {
         assert!(lines.tick(&record, state.ended, &state.heads).starts_with("ok "));
     }
     lines
+}
+
+/// The example of FORMAT.md: goals 1 and 3 over one variable, 2 and 4 over another.
+fn example() -> Parts {
+    let mut parts = Parts::over(2, &[0b01, 0b10, 0b01, 0b10]).lasting(&[3, 1, 2, 1]);
+    parts.pairs = vec![(0, 1)];
+    parts
+}
+
+fn example_run(lines: &mut Lines) {
+    lines.note("example", "the example of FORMAT.md, tick by tick");
+    let rows: [(u32, [Pair; 2]); 7] = [
+        (0, [IDLE, IDLE]),
+        (set(&[2]), [(1, 2), IDLE]),
+        (set(&[2, 4]), [(1, 1), IDLE]),
+        (set(&[1, 2, 4]), [IDLE, IDLE]),
+        (set(&[1, 2, 4]), [(3, 1), IDLE]),
+        (set(&[1, 2, 3, 4]), [IDLE, IDLE]),
+        (set(&[1, 2, 3, 4]), [IDLE, IDLE]),
+    ];
+    for states in rows.windows(2) {
+        let [(ended, heads), (after, left)] = states else { continue };
+        lines.accept(&example(), *ended, heads, *after, left);
+    }
+    lines.accept(&example(), set(&[2]), &[IDLE, (4, 1)], set(&[2, 4]), &[(1, 2), IDLE]);
+    lines.note("example-refused", "the same clause: what FORMAT.md says is 20");
+    for (ended, heads) in [
+        (set(&[2]), [(3, 2), IDLE]),
+        (set(&[2]), [(1, 1), (3, 2)]),
+        (set(&[4]), [IDLE, IDLE]),
+        (set(&[2]), [(1, 4), IDLE]),
+        (set(&[2]), [(1, 0), IDLE]),
+        (set(&[2]), [(0, 1), IDLE]),
+        (set(&[2]), [(2, 1), IDLE]),
+        (set(&[2]), [(1, 1), (1, 1)]),
+        (set(&[2]), [(5, 1), IDLE]),
+        (set(&[2, 5]), [IDLE, IDLE]),
+    ] {
+        lines.refuse(&example(), ended, &heads);
+    }
 }
 
 /// A seeded clause whose record has at most so many bytes.
@@ -509,6 +550,8 @@ pub(super) fn runs() -> Lines {
     for heads in [0, 9, 255] {
         assert_eq!(lines.run(&apart(&[7]), heads), "refused 20 0");
     }
+    lines.note("example", "the example of FORMAT.md");
+    lines.expect_run(&example(), 2, [5, 7, 5]);
     lines.note("chain", "a chain: as many ticks as it has, whatever the heads");
     for heads in 1..=HEAD_LIMIT {
         lines.expect_run(&chain(&[3, 1, 4, 1, 5]), heads, [14, 14, 14]);
