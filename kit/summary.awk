@@ -2,6 +2,7 @@
 BEGIN {
     about["waits"] = "who waits for whom before closure; an interface that gives the closed order alone, as the C header does, has no such answer"
     about["unread"] = "how much of its input the sheet's program leaves unread; a library without a program has no such answer"
+    about["start"] = about["tick"] = about["run"] = "the dispatcher, a product of its own on top of the annotator"
 }
 $2 == "agree" && $4 == "differ" {
     agree += $1

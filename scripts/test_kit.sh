@@ -52,6 +52,7 @@ echo 'right | sed "\$d"' | annotator missing
 echo 'right; exit 3' | annotator status
 echo 'sed "s/.*/skip/"' | annotator skips
 echo 'awk "{ print \$1 == \"waits\" ? \"skip\" : \$0 }" | right | sed "s/^error\$/skip/"' | annotator no-waits
+echo 'awk "{ print \$1 == \"tick\" ? \"skip\" : \$0 }" | right | sed "s/^error\$/skip/"' | annotator no-dispatcher
 echo 'right | sed "s/\$/$(printf "\r")/"' | annotator crlf
 echo 'right | tr a-f A-F' | annotator capitals
 echo 'exit 0' | annotator silent
@@ -69,6 +70,7 @@ tried 1 'ended with status 3' --case buffers/form "$work/status"
 tried 1 'nothing was compared' --case buffers "$work/skips"
 tried 1 'form: the program does not offer this operation' --case buffers "$work/skips"
 tried 0 'waits: who waits for whom before closure' --case facts/outside-head "$work/no-waits"
+tried 0 'tick: the dispatcher, a product of its own' --case tick/example --case buffers "$work/no-dispatcher"
 tried 0 '0 differ' --case buffers --case check-order/three-goals "$work/crlf"
 tried 0 '0 differ' --case buffers "$work/capitals"
 tried 1 'given     (no answer)' --case sheet "$work/silent"
