@@ -4,22 +4,35 @@ use compare::build::Parts;
 use compare::cases::{Annotator, LANDED, Reference, answer, hex};
 use compare::{GOAL_LIMIT, Head, Order, Refusal, Verdict};
 
-/// The hand-written annotator, but after a call that writes it changes the byte or head at this
-/// place of the buffer or row, counted from its end if `last`.
+/// The hand-written annotator, but after a call that writes it changes a byte of the buffer or a
+/// head of the row, the first or the last, and of a tick's answer it leaves out the goals to forget.
 struct Careless {
-    place: usize,
-    last: bool,
+    spoils: Option<Place>,
+    forgets: u32,
+}
+
+#[derive(Clone, Copy)]
+enum Place {
+    First,
+    Last,
 }
 
 impl Careless {
+    fn at(place: Place) -> Careless {
+        Careless { spoils: Some(place), forgets: 0 }
+    }
+
     fn spoil<T>(
         &self,
         out: &mut [T],
         value: T,
         answer: Result<u32, Refusal>,
     ) -> Result<u32, Refusal> {
-        let place = if self.last { out.len() - 1 - self.place } else { self.place };
-        out[place] = value;
+        match self.spoils {
+            None => (),
+            Some(Place::First) => out[0] = value,
+            Some(Place::Last) => out[out.len() - 1] = value,
+        }
         answer
     }
 }
@@ -66,7 +79,7 @@ impl Annotator for Careless {
         self.spoil(heads, Head { goal: 1, left: 1 }, answer)
     }
     fn tick(&self, record: &[u8], heads: &mut [Head], ended: u32) -> Result<u32, Refusal> {
-        let answer = Reference.tick(record, heads, ended);
+        let answer = Reference.tick(record, heads, ended).map(|ended| ended & !self.forgets);
         self.spoil(heads, Head { goal: 1, left: 1 }, answer)
     }
 }
@@ -84,10 +97,10 @@ fn a_changed_byte_is_an_error() {
         (format!("mel {LANDED} 4c 9"), "refused 1 1"),
     ] {
         assert_eq!(answer(&Reference, &question).as_deref(), Ok(right));
-        let error = answer(&Careless { place: 0, last: true }, &question).unwrap_err();
+        let error = answer(&Careless::at(Place::Last), &question).unwrap_err();
         assert!(error.contains("changed"), "{question}: {error}");
         if right.starts_with("refused") {
-            let error = answer(&Careless { place: 0, last: false }, &question).unwrap_err();
+            let error = answer(&Careless::at(Place::First), &question).unwrap_err();
             assert!(error.contains(right) && error.contains("changed"), "{question}: {error}");
         }
     }
@@ -103,19 +116,28 @@ fn a_changed_head_is_an_error() {
         (format!("tick {LANDED} {record} 00000000 9{}", " 0 0".repeat(9)), "refused 20 0"),
     ] {
         assert_eq!(answer(&Reference, &question).as_deref(), Ok(right));
-        for last in [false, true] {
-            let error = answer(&Careless { place: 0, last }, &question).unwrap_err();
+        for place in [Place::First, Place::Last] {
+            let error = answer(&Careless::at(place), &question).unwrap_err();
             assert!(error.contains(right) && error.contains("changed"), "{question}: {error}");
         }
     }
-    // A run that goes on for too long, is refused, or changes something behind its last tick.
-    for (heads, last, words) in
-        [(1, false, "refused 20"), (2, true, "refused 20"), (8, false, "refused 20")]
-    {
-        let question = format!("run {LANDED} {record} {heads}");
-        assert_eq!(answer(&Reference, &question).as_deref(), Ok("ok 3 3 3"));
-        let error = answer(&Careless { place: 0, last }, &question).unwrap_err();
-        assert!(error.contains(words), "{question}: {error}");
+}
+
+#[test]
+fn a_run_off_the_rule_is_an_error() {
+    for (goals, careless, words) in [
+        (3, Careless::at(Place::First), "tick 2 of a run is refused 20 0"),
+        (
+            3,
+            Careless { spoils: None, forgets: 0b100 },
+            "after 3 ticks the ended goals are 00000003",
+        ),
+        (1, Careless::at(Place::Last), "a tick after all goals have ended changes something"),
+    ] {
+        let record = hex(&Parts::over(1, &vec![1; goals]).record());
+        let question = format!("run {LANDED} {record} 2");
+        assert_eq!(answer(&Reference, &question), Ok(format!("ok {goals} {goals} {goals}")));
+        assert_eq!(answer(&careless, &question).unwrap_err(), words);
     }
 }
 

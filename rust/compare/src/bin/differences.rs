@@ -20,7 +20,8 @@ const HELP: &str = "\
 usage: differences [CASES [SEED]]     200000 cases and seed 1 if not given
        differences --case 'LINE'      both answers to one question in the kit's format
 The proved annotator against the hand-written one, on seeded cases.
-Status 0 if there is no difference and every refusal, verdict, form and no form was met.
+Status 0 if there is no difference and every refusal, each reason of 20 alone, every verdict, form
+and no form was met, and runs of the dispatcher.
 ";
 
 /// Bytes on each side of a lent buffer that nobody may change.
@@ -450,7 +451,8 @@ fn words(question: &str) -> Option<(u64, u64)> {
     let record = unhex(fields.get(2)?).ok()?;
     let number = || fields.get(3)?.parse::<u32>().ok();
     let (start, n) = (record.as_ptr(), record.len());
-    let mut out = vec![0u8; number().filter(|_| fields[0] != "tick").unwrap_or(0) as usize];
+    let room = if matches!(fields[0], "form" | "mel") { number()? } else { 0 };
+    let mut out = vec![0u8; room as usize];
     // SAFETY of all calls: the pointers are those of vectors, and the buffer is one of its own.
     Some(match fields[0] {
         "read" => (unsafe { c::lfj_read(start, n) }, word(Reference.read(&record))),
