@@ -7,10 +7,8 @@ from typing import NamedTuple
 # the field K: how many change requests have landed
 LANDED = 4
 # the number of fields behind OPERATION and K; of a tick without those of its heads, of which the third field says how many there are
-FIELDS = {
-    **{"read": 1, "waits": 1, "order": 1, "form": 2, "length": 1, "mel": 2, "text": 2, "check": 2, "sheet": 1, "unread": 1},
-    **{"start": 2, "tick": 3, "run": 2},
-}
+FIELDS = {"read": 1, "waits": 1, "order": 1, "form": 2, "length": 1, "mel": 2, "text": 2, "check": 2, "sheet": 1, "unread": 1}
+FIELDS |= {"start": 2, "tick": 3, "run": 2}
 
 
 class Case(NamedTuple):
