@@ -258,6 +258,13 @@ fn seeded_states() {
         };
         assert_eq!(course.reasons(&state), [], "{state:?}");
         clause.hold(&state.heads, state.ended);
+        // From an accepted state every tick is accepted, and all goals end.
+        let mut on = state.clone();
+        while on.ended.count_ones() < clause.n {
+            let (next, quiet) = course.ticked(&on).unwrap();
+            on = next;
+            Course::later(&mut on, quiet);
+        }
         course.damage(&mut random, &mut state);
         clause.hold(&state.heads, state.ended);
         let good = course.reasons(&state).is_empty();
