@@ -361,6 +361,11 @@ pub fn clause(random: &mut Random) -> Parts {
     if random.chance(1, 2) { with_facts(random, parts) } else { parts }
 }
 
+/// Gives each goal of a clause of version 2 at most so many ticks, so that its runs are short.
+pub fn shorten(random: &mut Random, parts: &mut Parts, most: usize) {
+    parts.facts.iter_mut().for_each(|facts| facts.ticks = random.between(1, most) as u16);
+}
+
 /// The record of the parts with something wrong in it, or almost wrong.
 pub fn damaged(random: &mut Random, parts: &Parts) -> Vec<u8> {
     if !parts.facts.is_empty() && random.chance(1, 2) {

@@ -233,7 +233,7 @@ fn the_bound_on_seeded_runs() {
     for _ in 0..6000 {
         let mut parts = generate::clause(&mut random);
         let most = random.pick(&[1, 3, 12, 40]);
-        parts.facts.iter_mut().for_each(|facts| facts.ticks = random.between(1, most) as u16);
+        generate::shorten(&mut random, &mut parts, most);
         // A chain has exponentially many part chains, which the plain search would all try.
         if parts.goals.len() <= 12 {
             Clause::of(&parts).hold_bound(random.between(1, 8) as u32);
@@ -280,7 +280,7 @@ fn states_on_runs() {
     let mut random = Random::new(5);
     for _ in 0..300 {
         let mut parts = generate::clause(&mut random);
-        parts.facts.iter_mut().for_each(|facts| facts.ticks = random.between(1, 9) as u16);
+        generate::shorten(&mut random, &mut parts, 9);
         let course = Course::of(&parts.record()).unwrap();
         let heads = random.between(1, 8);
         let mut all = vec![course.start(heads)];

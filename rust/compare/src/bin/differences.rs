@@ -201,7 +201,7 @@ impl Run {
     }
 
     fn case(&mut self, random: &mut Random) {
-        let parts = generate::clause(random);
+        let mut parts = generate::clause(random);
         let record = match random.chance(3, 8) {
             true => generate::damaged(random, &parts),
             false => parts.record(),
@@ -233,6 +233,13 @@ impl Run {
         }
         self.arrays(record, random.word());
         self.dispatch(random, record);
+        if random.chance(1, 8) {
+            generate::shorten(random, &mut parts, 12);
+            let record = parts.record();
+            if let Ok(course) = Course::of(&record) {
+                self.run(&record, &course, random.between(1, HEAD_LIMIT));
+            }
+        }
         let form = self.form(random, record);
         self.length(record);
         self.mel(random, record);
@@ -285,7 +292,7 @@ impl Run {
             course.damage(random, &mut state);
             self.tick(record, &course, &state);
         }
-        if random.chance(1, 8) {
+        if random.chance(1, 16) {
             self.run(record, &course, heads);
         }
     }

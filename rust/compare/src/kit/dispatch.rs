@@ -611,7 +611,7 @@ pub(super) fn runs() -> Lines {
     for _ in 0..160 {
         let mut parts = generate::clause(&mut random);
         parts.goals.iter_mut().for_each(|goal| goal.1.truncate(2));
-        parts.facts.iter_mut().for_each(|facts| facts.ticks = random.between(1, 12) as u16);
+        generate::shorten(&mut random, &mut parts, 12);
         if parts.record().len() <= 600 {
             lines.run(&parts, random.between(1, HEAD_LIMIT));
         }
