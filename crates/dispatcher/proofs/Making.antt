@@ -7,8 +7,6 @@ use native.Mathlib.Omega.{arith}
 use lib.Dec.{eqb, leb}
 use borrow.Author.Tests.{eq-eqb, ne-eqb, le-leb, lt-leb}
 use Rattle.sets.specs.Sets.{goalLimit, without, below, subset}
-use Rattle.graph.specs.Passes.{gather}
-use Rattle.graph.specs.declared.Graph.{Graph}
 use Rattle.record_fields.specs.Fields.{goalCount}
 use Rattle.record_rules.specs.declared.Reading.{Reading}
 use Rattle.record_rules.specs.declared.Reading.the-variants.{Fine, Refused}
@@ -16,7 +14,7 @@ use Rattle.record_rules.specs.declared.Refusal.{Refusal}
 use Rattle.record_rules.specs.Reading.{reading}
 use Rattle.clause.specs.Clause.{goalTicks, decoded}
 use Rattle.clause.specs.declared.Clause.{Clause}
-use Rattle.order.specs.Arrays.{waiting}
+use Rattle.order.specs.Arrays.{waitingOn}
 use Rattle.lfj_words.specs.Words.{refusalWord}
 use Rattle.dispatch_steps.specs.declared.Board.{Board}
 use Rattle.dispatch_steps.specs.declared.Opening.{Opening}
@@ -47,7 +45,7 @@ module _ (b : List ℕ) (k m : ℕ) where
   pub record Made (all left late ready free : ℕ) (known enough ok : Bool) (phase : ℕ) : Type 0 where
     pub all-is : all ≡ below (goalCount b)
     pub left-is : left ≡ without all m
-    pub waiting-is : late ≡ gather goalLimit (waiting b .rows) 0 left
+    pub waiting-is : late ≡ waitingOn b left
     pub ready-is : ready ≡ without all late
     pub known-is : known ≡ subset m ready
     pub enough-is : enough ≡ few k
@@ -60,7 +58,7 @@ module _ (b : List ℕ) (k m : ℕ) where
   unfolding tickOpen
   made-is all left late ready free known enough ok phase ticks r d t e =
       let l : left ≡ leftOf b m = d .left-is ∙ ap (λ (x : ℕ). without x m) (d .all-is) in
-      let w : late ≡ waitingOf b m = d .waiting-is ∙ ap (gather goalLimit (waiting b .rows) 0) l in
+      let w : late ≡ waitingOf b m = d .waiting-is ∙ ap (waitingOn b) l in
       let y : ready ≡ without (below (goalCount b)) (waitingOf b m) = d .ready-is ∙ ap₂ without (d .all-is) w in
       let o : ok ≡ (few k && subset m (without (below (goalCount b)) (waitingOf b m))) = d .ok-is ∙ ap₂ _&&_ (d .enough-is) (d .known-is ∙ ap (subset m) y) in
       let p : phase ≡ cond (few k && subset m (without (below (goalCount b)) (waitingOf b m))) looking resting = d .phase-is ∙ ap (λ x. cond x looking resting) o in

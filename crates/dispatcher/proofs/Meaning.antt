@@ -14,11 +14,9 @@ use Rattle.logic.proofs.Quantifiers.{below-in, below-out}
 use Rattle.logic.proofs.Table.{table-at}
 use Rattle.sets.specs.Sets.{goalLimit, has, without, below, subset, setOf}
 use Rattle.sets.proofs.Membership.{has-empty, has-without, has-below, subset-has, has-subset, member-below, below-of}
-use Rattle.sets.proofs.Builder.{has-setOf-in}
 use Rattle.graph.specs.Graph.{hasGoal, goalsOf}
-use Rattle.graph.specs.Passes.{gather}
 use Rattle.graph.proofs.Goals.{goal-none}
-use Rattle.graph.proofs.Rows.{goals-ext, row-in, row-out}
+use Rattle.graph.proofs.Rows.{goals-ext, goals-has}
 use Rattle.record_fields.specs.Facts.{ticksAt}
 use Rattle.record_fields.specs.Fields.{goalCount}
 use Rattle.record_rules.specs.declared.Refusal.{Refusal}
@@ -32,7 +30,7 @@ use Rattle.record.proofs.Facts.{ticks-range}
 use Rattle.clause.specs.Clause.{goalTicks}
 use Rattle.graph.specs.Closure.{wait, link}
 use Rattle.order.specs.Order.{waits, Before, before}
-use Rattle.order.specs.Arrays.{waiting}
+use Rattle.order.specs.Arrays.{waitingOn}
 use Rattle.order.proofs.Theorems.{before-is, before-goals, before-order}
 use Rattle.lfj_words.specs.Words.{refusalWord, tickWord}
 use Rattle.schedule.specs.Range.{Goals, Order, each}
@@ -92,47 +90,37 @@ module _ (b : List ℕ) (w : WellFormed b) where
     E = hasGoal m
 
     -- it waits for some goal that has not ended
-    waiting-at : (j : ℕ) → j < goalLimit → has (waitingOf b m) j ≡ someBelow goalLimit (λ k. has (leftOf b m) k && has (getD (waiting b .rows) k 0) j)
-    unfolding gather
-    waiting-at j l = has-setOf-in goalLimit _ j l ∙ ap (λ x. x || someBelow goalLimit (λ k. has (leftOf b m) k && has (getD (waiting b .rows) k 0) j)) (has-empty j)
+    abbrev held : ℕ → Bool
+    held g = someBelow n (λ i. has (leftOf b m) i && waits b (suc i) g)
+
+    waiting-at : (g : ℕ) → Goals n g → hasGoal (waitingOf b m) g ≡ held g
+    unfolding waitingOn
+    waiting-at g a = goals-has n held g (a .0) (a .1)
 
     -- the goals that do not are ready, by the waits
     ready-is : (g : ℕ) → Goals n g → not (hasGoal (waitingOf b m) g) ≡ ready (waits b) n E g
-    unfolding waiting
-    ready-is zero a = absurd (omega (arith, a .0))
-    ready-is (suc j) a =
-        iff (not (has (waitingOf b m) j)) (ready (waits b) n E (suc j))
-        (λ h. each-all (λ i. not (waits b i (suc j)) || E i) n (λ i c. to i c (not-true (has (waitingOf b m) j) h)))
-        (λ h. not-i (has (waitingOf b m) j) (λ u. from h u))
+    ready-is g a =
+        ap not (waiting-at g a)
+        ∙ iff (not (held g)) (ready (waits b) n E g)
+        (λ h. each-all (λ i. not (waits b i g) || E i) n (λ i c. implies-in (waits b i g) (E i) (λ r. to i c (not-true (held g) h) r)))
+        (λ h. not-i (held g) (λ u. from h u))
       where
-        lj : j < goalLimit
-        lj = omega (arith, a .1, few-goals)
-
-        to : (i : ℕ) → Goals n i → has (waitingOf b m) j ≡ false → not (waits b i (suc j)) || E i ≡ true
-        to zero c h = absurd (omega (arith, c .0))
-        to (suc i) c h =
-            ⊎-elim
-            (λ (r : waits b (suc i) (suc j) ≡ true).
-            ⊎-elim (λ (e : has m i ≡ true). ap (λ x. not (waits b (suc i) (suc j)) || x) e ∙ or-true (not (waits b (suc i) (suc j))))
+        to : (i : ℕ) → Goals n i → held g ≡ false → waits b i g ≡ true → E i ≡ true
+        to zero c h r = absurd (omega (arith, c .0))
+        to (suc i) c h r =
+            ⊎-elim (λ (e : has m i ≡ true). e)
             (λ (e : has m i ≡ false).
             let l : has (leftOf b m) i ≡ true = has-without (below n) m i ∙ and-i (has (below n) i) (not (has m i)) (has-below n i ∙ lt-ltb i n (c .1)) (ap not e) in
-            let q = row-in goalLimit n (waits b) i j few-goals (c .1) (a .1) r in
-            clash
-            (waiting-at j lj
-            ∙ below-in goalLimit (λ k. has (leftOf b m) k && has (getD (waiting b .rows) k 0) j) i (omega (arith, c .1, few-goals))
-            (and-i (has (leftOf b m) i) (has (getD (waiting b .rows) i 0) j) l q))
-            h)
-            (test (has m i)))
-            (λ (r : waits b (suc i) (suc j) ≡ false). ap (λ x. not x || E (suc i)) r) (test (waits b (suc i) (suc j)))
+            clash (below-in n (λ i. has (leftOf b m) i && waits b (suc i) g) i (c .1) (and-i (has (leftOf b m) i) (waits b (suc i) g) l r)) h)
+            (test (has m i))
 
-        from : ready (waits b) n E (suc j) ≡ true → has (waitingOf b m) j ≡ true → ⊥
+        from : ready (waits b) n E g ≡ true → held g ≡ true → ⊥
         from h u =
-            let s = below-out goalLimit (λ k. has (leftOf b m) k && has (getD (waiting b .rows) k 0) j) (sym (waiting-at j lj) ∙ u) in
-            let l = and-l (has (leftOf b m) (s .x)) (has (getD (waiting b .rows) (s .x) 0) j) (s .so) in
-            let q = row-out goalLimit n (waits b) (s .x) j few-goals (and-r (has (leftOf b m) (s .x)) (has (getD (waiting b .rows) (s .x) 0) j) (s .so)) in
+            let s = below-out n (λ i. has (leftOf b m) i && waits b (suc i) g) u in
+            let l = and-l (has (leftOf b m) (s .x)) (waits b (suc (s .x)) g) (s .so) in
+            let r = and-r (has (leftOf b m) (s .x)) (waits b (suc (s .x)) g) (s .so) in
             let e : has m (s .x) ≡ false = not-true (has m (s .x)) (and-r (has (below n) (s .x)) (not (has m (s .x))) (sym (has-without (below n) m (s .x)) ∙ l)) in
-            let k = each-at (λ i. not (waits b i (suc j)) || E i) n (suc (s .x)) h (omega arith, q .0) in
-            or-elim (not (waits b (suc (s .x)) (suc j))) (E (suc (s .x))) k (λ z. true≢false (sym (q .2) ∙ not-true (waits b (suc (s .x)) (suc j)) z)) (λ z. true≢false (sym z ∙ e))
+            true≢false (sym (implies-out (waits b (suc (s .x)) g) (E (suc (s .x))) (each-at (λ i. not (waits b i g) || E i) n (suc (s .x)) h (omega arith, s .under)) r) ∙ e)
 
     -- no ended goal is above n or waits for one that has not ended
     abbrev known : Bool

@@ -19,7 +19,7 @@ use Rattle.record_rules.specs.declared.Refusal.{Refusal}
 use Rattle.record_rules.specs.declared.Reading.the-variants.{Refused}
 use Rattle.record_rules.specs.Reading.{reading}
 use Rattle.record_rules.specs.Outcome.{Outcome, refused, accepted, readThen, onlyIf, values, Accepted}
-use Rattle.record_rules.proofs.Outcomes.{All, all-refused, all-accepted, all-read, all-only, all-next, read-fine, number-zero}
+use Rattle.record_rules.proofs.Outcomes.{All, all-refused, all-accepted, all-read, all-only, all-next, read-fine, number-zero, one-value}
 use Rattle.record.specs.Limits.{Bytes, OfReading}
 use Rattle.record.specs.WellFormed.{WellFormed}
 use Rattle.record.proofs.Refusals.{refusal-number, refusal-limit}
@@ -35,7 +35,7 @@ use Rattle.dispatch_rule.specs.declared.Head.{Head}
 use Rattle.dispatch_rule.specs.Rule.{State, idle, start, tick}
 use Rattle.dispatch_rule.specs.Validity.{Valid, isValid}
 use Rattle.dispatch_rule.specs.Run.{working, after, LastWorking}
-use Rattle.dispatch_rule.proofs.Ticks.{works, done-tick, done-works, valid-tick}
+use Rattle.dispatch_rule.proofs.Ticks.{works, done-tick, done-works, valid-tick, long-tick}
 use Rattle.dispatch_rule.proofs.Bound.{start-valid, after-valid, after-long, last-bound, last-working}
 use Rattle.dispatch_rule.proofs.Validity.{valid-is}
 use Rattle.dispatch_steps.specs.Steps.{stateOf}
@@ -95,12 +95,12 @@ module _ (b : List ℕ) (w : WellFormed b) where
       by false e = (λ a. absurd a, λ a. clash (ap₂ _&&_ (few-is (length hs) .1 (a .0, a .1)) (same .1 (a .2))) e)
 
   -- ---- a tick that is accepted
-  module _ (hs : List Head) (m : ℕ) (l : m < 2 ^ 32) (e : acceptable b hs m ≡ true) where
+  module _ (hs : List Head) (m : ℕ) (l : m < 2 ^ 32) (e′ : acceptable b hs m ≡ true) where
     abbrev ticked : State
     ticked = tick R n t (stateOf hs m)
 
     said : tickOutcome b hs m ≡ accepted ticked
-    said = tick-said hs m ∙ ap (λ x. onlyIf x 20 0 (accepted ticked)) e
+    said = tick-said hs m ∙ ap (λ x. onlyIf x 20 0 (accepted ticked)) e′
 
     row-is : tickRow b hs m ≡ ticked .heads
     unfolding tickRow
@@ -111,10 +111,10 @@ module _ (b : List ℕ) (w : WellFormed b) where
     answer-is = ap setOfState said
 
     valid : Valid R n t (stateOf hs m)
-    valid = valid-is R n t goalLimit (stateOf hs m) (λ g. has-wide m g l) .0 (and-true (few (length hs)) (isValid R n t goalLimit (stateOf hs m)) e .1)
+    valid = valid-is R n t goalLimit (stateOf hs m) (λ g. has-wide m g l) .0 (and-true (few (length hs)) (isValid R n t goalLimit (stateOf hs m)) e′ .1)
 
     some-head : 1 ≤ length hs
-    some-head = few-is (length hs) .0 (and-true (few (length hs)) (isValid R n t goalLimit (stateOf hs m)) e .0) .0
+    some-head = few-is (length hs) .0 (and-true (few (length hs)) (isValid R n t goalLimit (stateOf hs m)) e′ .0) .0
 
     -- the set that is answered, as a set of goals
     set-says : (g : ℕ) → hasGoal (goalsOf goalLimit (ticked .ended)) g ≡ ticked .ended g
@@ -131,6 +131,17 @@ module _ (b : List ℕ) (w : WellFormed b) where
         let s = goalsOf goalLimit (ticked .ended) in
         let q : hasGoal s ≡ ticked .ended = fun-ext set-says in
         (s, answer-is, goals-lt goalLimit (ticked .ended), λ i. record { heads = row-is i; ended = q i })
+
+    -- what it leaves is accepted by the next
+    pub tick-next : (s : ℕ) → tickAnswer b hs m ≡ accepted s → Accepted (tickAnswer b (tickRow b hs m) s)
+    tick-next s e =
+        let r = tick-rule in
+        let st : stateOf (tickRow b hs m) s ≡ ticked = ap (stateOf (tickRow b hs m)) (one-value (sym e ∙ r .1)) ∙ r .3 in
+        let v = valid-tick R n t (before-order b) (ticks-from b w) (stateOf hs m) valid in
+        let long : length (tickRow b hs m) ≡ length hs = ap length row-is ∙ long-tick R n t (before-order b) (ticks-from b w) (stateOf hs m) valid in
+        let a = few-is (length hs) .0 (and-true (few (length hs)) (isValid R n t goalLimit (stateOf hs m)) e′ .0) in
+        tick-accepted (tickRow b hs m) s (subst (λ (x : ℕ). x < 2 ^ 32) (one-value (sym (r .1) ∙ e)) (r .2)) .1
+        (omega (arith, a .0, long), omega (arith, a .1, long), subst (Valid R n t) (sym st) v)
 
     -- "until all goals have ended at least one head works"
     pub tick-works : (g : ℕ) → Goals n g → hasGoal m g ≡ false → 1 ≤ atWork b hs m

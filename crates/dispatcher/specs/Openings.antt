@@ -5,14 +5,13 @@ use Prim.Native.Nat.{ℕ}
 use lib.Dec.{eqb}
 use lib.ListN.{replicate}
 use Rattle.sets.specs.Sets.{goalLimit, without, below, subset}
-use Rattle.graph.specs.Passes.{gather}
 use Rattle.record_fields.specs.Fields.{goalCount}
 use Rattle.record_rules.specs.declared.Refusal.{Refusal}
 use Rattle.record_rules.specs.declared.Reading.{Reading}
 use Rattle.record_rules.specs.declared.Reading.the-variants.{Fine, Refused}
 use Rattle.record_rules.specs.Reading.{reading}
 use Rattle.clause.specs.Clause.{goalTicks}
-use Rattle.order.specs.Arrays.{waiting}
+use Rattle.order.specs.Arrays.{waitingOn}
 use Rattle.lfj_words.specs.Words.{refusalWord}
 use Rattle.dispatch_rule.specs.declared.Head.{Head}
 use Rattle.dispatch_steps.specs.declared.Board.{Board}
@@ -25,7 +24,7 @@ abbrev pub leftOf : List ℕ → ℕ → ℕ
 leftOf b m = without (below (goalCount b)) m
 
 abbrev pub waitingOf : List ℕ → ℕ → ℕ
-waitingOf b m = gather goalLimit (waiting b .rows) 0 (leftOf b m)
+waitingOf b m = waitingOn b (leftOf b m)
 
 -- "20, .. place 0"
 abbrev pub badRow : Refusal

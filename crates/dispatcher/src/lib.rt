@@ -95,10 +95,9 @@ fn tick_open(bytes: &[u8], heads: usize, ended: u32) -> Opening
     ensures { λ o. ⌜ o ≡ O.tickOpen (now (bytes .entry)) heads ended ⌝ }
 {
     let c = clause::decode(bytes);
-    let waits = order::waits_of(c.n, &c.sets, &c.grounds, &c.listed);
     let all = sets::below32(c.n);
     let left = sets::without32(all, ended);
-    let waiting = graph::gathered(&waits.rows, 0, left);
+    let waiting = order::waiting_for(c.n, &c.sets, &c.grounds, &c.listed, left);
     let ready = sets::without32(all, waiting);
     let known = sets::subset32(ended, ready);
     let ok = few(heads) & known;

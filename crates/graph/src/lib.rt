@@ -62,21 +62,21 @@ impl Graph {
     }
 }
 
-// What is in `all` or in the row of a goal of `left`.
-pub fn gathered(rows: &[u32; Graph::MAX], all: u32, left: u32) -> u32
-    ensures { λ r. ⌜ r ≡ P.gather S.goalLimit (now (rows .entry)) all left ⌝ }
+// The row with the rows of its goals.
+fn joined(rows: &[u32; Graph::MAX], row: u32) -> u32
+    ensures { λ r. ⌜ r ≡ P.gather S.goalLimit (now (rows .entry)) row row ⌝ }
 {
-    let mut found = all;
-    let mut rest = left;
-    while rest != 0 {
-        let k = sets::first32(rest);
-        rest = sets::without_first32(rest);
-        found = sets::union32(found, rows[k]);
+    let mut all = row;
+    let mut left = row;
+    while left != 0 {
+        let k = sets::first32(left);
+        left = sets::without_first32(left);
+        all = sets::union32(all, rows[k]);
     }
-    found
+    all
 }
 
-// A row with the rows of its goals, where these are all of `still`: the goals of their rows lead to nothing new, and are passed over.
+// The same for a row whose goals are all of `still`: the goals of their rows lead to nothing new, and are passed over.
 fn joined_still(rows: &[u32; Graph::MAX], row: u32, still: u32) -> u32
     requires { ⌜ P.Still (now rows) still × (S.subset row still ≡ true) ⌝ }
     ensures { λ r. ⌜ r ≡ P.gather S.goalLimit (now (rows .entry)) row row ⌝ }
@@ -100,7 +100,7 @@ fn row_pass(rows: &[u32; Graph::MAX], row: u32, still: u32) -> u32
     if sets::subset32(row, still) {
         return joined_still(rows, row, still);
     }
-    gathered(rows, row, row)
+    joined(rows, row)
 }
 
 // The set with goal i + 1 in it, if its row is as it was.

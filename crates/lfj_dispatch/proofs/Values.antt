@@ -1,4 +1,4 @@
--- The values that the walks of this crate pass on (heads, boards, plans, openings): what they own, the types of the locals that hold them, and their machine values.
+-- The values that the walks of this crate pass on (heads, boards, plans, refusals, openings): what they own, the types of the locals that hold them, and their machine values.
 -- A struct with an array has two spellings of its machine value, equal by a lemma and not by computation. The walks have one of them throughout, the one that shows the fields, so that a field can be loaded: `lowered`.
 use mathlib.Core.Path.{_≡_, subst}
 use mathlib.Core.List.{List, [], _∷_}
@@ -10,9 +10,12 @@ use denote.Laws.{Is}
 use denote.Memory.{pointee}
 use denote.Slice.{sliceTy}
 use denote.Struct.Laws as LL
+use Rattle.record_rules.specs.declared.Refusal.{Refusal}
 use Rattle.dispatch_steps.specs.declared.Board.{Board}
 use Rattle.dispatch_steps.specs.declared.Plan.{Plan}
 use Rattle.dispatch_steps.specs.declared.Opening.{Opening}
+use Rattle.record_rules.proofs.Refusal as F
+use Rattle.record_rules.proofs.Refusal.Laws as F′
 use Rattle.dispatch_rule.proofs.Head as T
 use Rattle.dispatch_rule.proofs.Head.Laws as T′
 use Rattle.dispatch_steps.proofs.Board as B
@@ -32,6 +35,9 @@ Bd = B.the-row
 abbrev pub Pl : RattleType
 Pl = P.the-row
 
+abbrev pub Rf : RattleType
+Rf = F.the-row
+
 abbrev pub Op : RattleType
 Op = O.the-row
 
@@ -44,6 +50,9 @@ boardTy = B′.mir
 
 abbrev pub planTy : Ty
 planTy = P′.mir
+
+abbrev pub refusalTy : Ty
+refusalTy = F′.mir
 
 abbrev pub openingTy : Ty
 openingTy = O′.mir
@@ -81,6 +90,9 @@ boardVal d = B′.lowered d
 abbrev pub planVal : Plan → Val
 planVal p = P′.lowered p
 
+abbrev pub refusalVal : Refusal → Val
+refusalVal f = F′.lowered f
+
 abbrev pub openingVal : Opening → Val
 openingVal o = O′.lowered o
 
@@ -90,6 +102,9 @@ GoodBoard d = Is Bd d (boardVal d ∷ [])
 
 abbrev pub GoodPlan : Plan → Type 0
 GoodPlan p = Is Pl p (planVal p ∷ [])
+
+abbrev pub GoodRefusal : Refusal → Type 0
+GoodRefusal f = Is Rf f (refusalVal f ∷ [])
 
 abbrev pub GoodOpening : Opening → Type 0
 GoodOpening o = Is Op o (openingVal o ∷ [])
@@ -108,6 +123,9 @@ board-good d v g = subst (Is Bd d) (board-tells d v g) g
 pub plan-good : (p : Plan) (v : Val) → Is Pl p (v ∷ []) → GoodPlan p
 plan-good p v g = subst (Is Pl p) (P′.lowers .val-is p (v ∷ []) g) g
 
+pub refusal-good : (f : Refusal) (v : Val) → Is Rf f (v ∷ []) → GoodRefusal f
+refusal-good f v g = subst (Is Rf f) (F′.lowers .val-is f (v ∷ []) g) g
+
 pub opening-good : (o : Opening) (v : Val) → Is Op o (v ∷ []) → GoodOpening o
 opening-good o v g = subst (Is Op o) (opening-tells o v g) g
 
@@ -117,3 +135,6 @@ opening-board o g = board-good (o .board) _ (LL.owed O.the-type O′.the-laws o 
 
 pub opening-plan : (o : Opening) → GoodOpening o → GoodPlan (o .plan)
 opening-plan o g = plan-good (o .plan) _ (LL.owed O.the-type O′.the-laws o _ g .1 .0)
+
+pub opening-refusal : (o : Opening) → GoodOpening o → GoodRefusal (o .refusal)
+opening-refusal o g = refusal-good (o .refusal) _ (LL.owed O.the-type O′.the-laws o _ g .1 .1 .0)

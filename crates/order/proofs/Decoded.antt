@@ -7,8 +7,9 @@ use native.Mathlib.Omega.{arith}
 use lib.Dec.{ltb, isLe}
 use lib.ListN.{getD}
 use borrow.Author.Tests.{le-leb}
-use Rattle.sets.specs.Sets.{goalLimit, variableLimit}
+use Rattle.sets.specs.Sets.{goalLimit, variableLimit, has}
 use Rattle.sets.proofs.Builder.{setOf-cong}
+use Rattle.logic.proofs.Quantifiers.{some-cong}
 use Rattle.logic.proofs.Table.{table-cong}
 use Rattle.graph.specs.Closure.{IsGraph, closing}
 use Rattle.graph.specs.Graph.{goalsOf, rowsOf}
@@ -25,7 +26,7 @@ use Rattle.record_fields.specs.Facts.{groundAt, freeAt}
 use Rattle.record_fields.specs.Fields.{goalCount, goalSet, listed}
 use Rattle.record.specs.WellFormed.{WellFormed}
 use Rattle.order.specs.Order.{earlier, waits, before, order}
-use Rattle.order.specs.Arrays.{waitsAt, waitsIn, waitRows, orderRows, waiting}
+use Rattle.order.specs.Arrays.{waitsAt, waitsIn, waitRows, orderRows, waiting, waitingFor, waitingOn}
 
 -- goals counted from 0
 earlier-at : (n i j : ℕ) → j < n → ltb i j ≡ earlier n (suc i) (suc j)
@@ -74,6 +75,10 @@ module _ (b : List ℕ) (w : WellFormed b) (c : Clause) (e : c ≡ decoded b) wh
   unfolding decoded
   clause-order h = h ∙ ap (λ (x : Clause). orderRows variableLimit (x .n) (x .sets) (x .grounds) (x .listed)) e ∙ order-decoded b w
 
-  pub clause-waits : {g : Graph} → g ≡ waitRows variableLimit (c .n) (c .sets) (c .grounds) (c .listed) → g ≡ waiting b
-  unfolding decoded
-  clause-waits h = h ∙ ap (λ (x : Clause). waitRows variableLimit (x .n) (x .sets) (x .grounds) (x .listed)) e ∙ waits-decoded b w
+  -- the goals that wait for one of a set
+  pub clause-waiting : {r : ℕ} (left : ℕ) → r ≡ waitingFor variableLimit (c .n) (c .sets) (c .grounds) (c .listed) left → r ≡ waitingOn b left
+  unfolding decoded waitingFor waitingOn goalsOf
+  clause-waiting left h =
+      h
+      ∙ ap (λ (x : Clause). waitingFor variableLimit (x .n) (x .sets) (x .grounds) (x .listed) left) e
+      ∙ setOf-cong (goalCount b) _ _ (λ j l. some-cong (goalCount b) _ _ (λ i k. ap (λ x. has left i && x) (waits-at b w i j k l)))

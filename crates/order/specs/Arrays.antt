@@ -5,7 +5,8 @@ use mathlib.Core.List.{List}
 use Prim.Native.Nat.{ℕ, zero, suc, _+_}
 use lib.Dec.{ltb}
 use lib.ListN.{getD}
-use Rattle.sets.specs.Sets.{union, single, setOf}
+use Rattle.sets.specs.Sets.{has, union, single, setOf}
+use Rattle.logic.specs.Quantifiers.{someBelow}
 use Rattle.logic.specs.Table.{table}
 use Rattle.independence.specs.ByRows.{waitsBy}
 use Rattle.independence.specs.Ties.{tiesOf, tied}
@@ -13,7 +14,7 @@ use Rattle.independence.specs.Halves.{halves, whole}
 use Rattle.independence.specs.declared.Halves.{Halves}
 use Rattle.record_fields.specs.Fields.{goalCount}
 use Rattle.graph.specs.Closure.{closing}
-use Rattle.graph.specs.Graph.{graphOf}
+use Rattle.graph.specs.Graph.{goalsOf, graphOf}
 use Rattle.graph.specs.declared.Graph.{Graph}
 use Rattle.order.specs.Order.{waits}
 
@@ -68,3 +69,11 @@ orderRows w n sets grounds listed = closing (waitRows w n sets grounds listed)
 -- the waits of a record as a graph
 unfoldable pub waiting : List ℕ → Graph
 waiting b = graphOf (goalCount b) (waits b)
+
+-- ---- those of the first n goals that wait for one of a set of goals
+unfoldable pub waitingFor : ℕ → ℕ → List ℕ → List ℕ → List ℕ → ℕ → ℕ
+waitingFor w n sets grounds listed left = setOf n (λ j. someBelow n (λ i. has left i && waitsAt w 0 sets grounds listed i j))
+
+-- the same of a record
+unfoldable pub waitingOn : List ℕ → ℕ → ℕ
+waitingOn b left = goalsOf (goalCount b) (λ g. someBelow (goalCount b) (λ i. has left i && waits b (suc i) g))

@@ -5,6 +5,7 @@ ghost use Prim.Native.Nat.{_+_, _<_, _≤_};
 ghost use lib.ListN.{length, replicate};
 ghost use denote.Ref.{now};
 ghost use Rattle.sets.specs.Sets as S;
+ghost use Rattle.independence.specs.Ties.{tiesOf};
 ghost use Rattle.order.specs.Arrays as W;
 use graph::Graph;
 use independence::Halves;
@@ -110,4 +111,39 @@ pub fn order_of<'a>(
     ensures { λ r. ⌜ r ≡ W.orderRows S.variableLimit n (now (sets .entry)) (now (grounds .entry)) (now (listed .entry)) ⌝ }
 {
     waits_of(n, sets, grounds, listed).closed()
+}
+
+// The ties with those of a goal, of this variable set and this ground set, if they are to be added.
+fn with_ties(ties: u64, set: u64, ground: u64, listed: &[u64; sets::VARIABLES], add: bool) -> u64
+    ensures { λ r. ⌜ r ≡ cond add (S.union ties (tiesOf ground 0 (now (listed .entry)) S.variableLimit set)) ties ⌝ }
+{
+    if add {
+        return sets::union(ties, independence::ties(set, ground, 0, listed));
+    }
+    ties
+}
+
+// Those of n goals that wait for a goal of the set `left`. What ties a later goal to one of several is in the union of their ties, so that one pass over the goals
+// tells it.
+pub fn waiting_for<'a>(
+    n: usize,
+    sets: &'a [u64; Graph::MAX],
+    grounds: &'a [u64; Graph::MAX],
+    listed: &'a [u64; sets::VARIABLES],
+    left: u32,
+) -> u32
+    requires { ⌜ n ≤ S.goalLimit ⌝ }
+    ensures { λ r. ⌜ r ≡ W.waitingFor S.variableLimit n (now (sets .entry)) (now (grounds .entry)) (now (listed .entry)) left ⌝ }
+{
+    let mut ties = 0u64;
+    let mut found = 0u32;
+    let mut j = 0;
+    while j < n {
+        let set = sets[j];
+        let tied = independence::waits(Halves::of(ties), Halves::of(set));
+        found = with(found, Graph::single(j + 1), tied);
+        ties = with_ties(ties, set, grounds[j], listed, sets::has32(left, j));
+        j += 1;
+    }
+    found
 }

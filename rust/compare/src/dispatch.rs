@@ -73,11 +73,10 @@ pub fn tick(bytes: &[u8], heads: &mut [Head], ended: u32) -> Result<u32, Refusal
     let Some(busy) = busy(&clause, &ticks, heads, ended) else {
         return Err(Refusal::at(20, 0));
     };
-    // The goals with a predecessor that has not ended. The first goal that has not ended is the
-    // first whose row is needed, and a row needs later ones alone.
+    // The goals that wait for one that has not ended. Direct waits are enough: where no ended goal
+    // has one, a chain from a goal that has not ended to another has one at its end.
     let left = all & !ended;
-    let rows = order::after_from(&clause, left.trailing_zeros() as usize);
-    let held = Members(left as u64).fold(0, |held, goal| held | rows[goal & 31]);
+    let held = order::waiting_for(&clause, left);
     if held & (ended | busy) != 0 {
         return Err(Refusal::at(20, 0));
     }

@@ -24,20 +24,40 @@ struct Ties {
     active: u32,
 }
 
+/// The variables whose presence makes a later goal wait for this one.
+#[inline(always)]
+fn ties_of(clause: &Clause, goal: usize) -> u64 {
+    let (set, ground) = (clause.sets[goal & 31], clause.grounds[goal & 31]);
+    let mut independent = u64::MAX;
+    for variable in Members(set & !ground) {
+        independent &= clause.listed[variable];
+        if independent == 0 {
+            break;
+        }
+    }
+    !(independent | ground)
+}
+
 #[inline(always)]
 fn ties(clause: &Clause, from: usize) -> Ties {
     let mut found = Ties { ties: [0; GOAL_LIMIT], active: 0 };
     for goal in from..clause.goals {
-        let (set, ground) = (clause.sets[goal & 31], clause.grounds[goal & 31]);
-        let mut independent = u64::MAX;
-        for variable in Members(set & !ground) {
-            independent &= clause.listed[variable];
-            if independent == 0 {
-                break;
-            }
+        found.ties[goal & 31] = ties_of(clause, goal);
+        found.active |= ((clause.sets[goal & 31] & !clause.ground != 0) as u32) << goal;
+    }
+    found
+}
+
+/// The goals that wait for one of the set `left`, by a wait of their own: what ties a later goal
+/// to one of several is in the union of their ties.
+#[inline(always)]
+pub fn waiting_for(clause: &Clause, left: u32) -> u32 {
+    let (mut ties, mut found) = (0, 0);
+    for goal in left.trailing_zeros() as usize..clause.goals {
+        found |= ((clause.sets[goal & 31] & ties != 0) as u32) << goal;
+        if left >> goal & 1 == 1 {
+            ties |= ties_of(clause, goal);
         }
-        found.ties[goal & 31] = !(independent | ground);
-        found.active |= ((set & !clause.ground != 0) as u32) << goal;
     }
     found
 }

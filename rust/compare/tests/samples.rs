@@ -14,7 +14,7 @@ fn each_sheet() {
     let files = fs::read_dir(folder()).unwrap().map(|file| file.unwrap().path());
     let records: Vec<_> =
         files.filter(|path| path.extension().is_some_and(|end| end == "lfj")).collect();
-    assert_eq!(records.len(), 12);
+    assert_eq!(records.len(), 14);
     for path in records {
         let sheet = compare::sheet(&Reference, &fs::read(&path).unwrap());
         let written = fs::read(path.with_extension("sheet")).unwrap();

@@ -1,10 +1,8 @@
 use native.Mathlib.Omega.{arith}
 use mathlib.Core.Path.{_≡_, refl, sym, ap, _∙_}
 use Rattle.sets.specs.Sets.{below}
-use Rattle.graph.specs.Passes.{gather}
-use Rattle.graph.specs.declared.Graph.{Graph}
 use Rattle.clause.proofs.Decoded.{clause-count, clause-few}
-use Rattle.order.proofs.Decoded.{clause-waits}
+use Rattle.order.proofs.Decoded.{clause-waiting}
 use Rattle.dispatcher.proofs.Making.{Made, made-is, ticks-of}
 use borrow.Author.Needs.{needs}
 use Rattle.dispatcher.proofs.tick_open.Statement.{statement}
@@ -13,17 +11,14 @@ use Rattle.dispatcher.proofs.tick_open.Tie as tie
 decode-requires : tie.Need-decode-requires
 decode-requires c κs = search needs
 
-waits-of-requires : tie.Need-waits-of-requires
-waits-of-requires c κs = let d = c .before .before .before .before in clause-few _ (d .before .before .pre) _ (d .decode .ensures)
-
 below32-requires : tie.Need-below32-requires
-below32-requires c κs = let d = c .before .before .before .before .before in clause-few _ (d .before .before .pre) _ (d .decode .ensures)
+below32-requires c κs = clause-few _ (c .before .before .pre) _ (c .decode .ensures)
 
 without32-requires : tie.Need-without32-requires
 without32-requires c κs = search needs
 
-gathered-requires : tie.Need-gathered-requires
-gathered-requires c κs = search needs
+waiting-for-requires : tie.Need-waiting-for-requires
+waiting-for-requires c κs = let d = c .before .before .before .before .before .before in clause-few _ (d .before .before .pre) _ (d .decode .ensures)
 
 without32-requires-2 : tie.Need-without32-requires-2
 without32-requires-2 c κs = search needs
@@ -45,17 +40,14 @@ bad-row-requires c κs = search needs
 
 returns : tie.Need-returns
 returns c =
-    let m = c .before .before .before .before .before .before in
-    let g = c .before .before .before .before .before .before .before .before .before .before .before .before in
-    let d = c .before .before .before .before .before .before .before .before .before .before .before .before .before .before .before .before .before in
+    let d = c .before .before .before .before .before .before .before .before .before .before .before .before .before .before in
     let a = d .before .before .args in
-    let o = clause-waits _ (d .before .before .pre) _ (d .decode .ensures) (g .waits-of .ensures) in
     made-is _ (a .heads) (a .ended) _ _ _ _ _ _ _ _ _ _ _
     (record {
-      all-is = c .before .before .before .before .before .before .before .before .before .before .before .below32 .ensures ∙ ap below (clause-count _ (d .before .before .pre) _ (d .decode .ensures));
-      left-is = c .before .before .before .before .before .before .before .before .before .before .without32 .ensures;
-      waiting-is = m .before .gathered .ensures ∙ ap (λ (x : Graph). gather 32 (x .rows) 0 (c .before .before .before .before .before .before .before .before .before .before .without32 .result)) o;
-      ready-is = m .without322 .ensures;
+      all-is = c .before .before .before .before .before .before .before .before .before .before .before .before .before .below32 .ensures ∙ ap below (clause-count _ (d .before .before .pre) _ (d .decode .ensures));
+      left-is = c .before .before .before .before .before .before .before .before .before .before .before .before .without32 .ensures;
+      waiting-is = clause-waiting _ (d .before .before .pre) _ (d .decode .ensures) (c .before .before .before .before .before .before .before .before .before .before .before .before .without32 .result) (c .before .before .before .before .before .before .before .waiting-for .ensures);
+      ready-is = c .before .before .before .before .before .before .without322 .ensures;
       known-is = c .before .before .before .before .before .subset32 .ensures;
       enough-is = c .before .before .before .before .few .ensures;
       ok-is = refl;
@@ -69,10 +61,9 @@ tick-open-spec =
     tie.close
     (tie.spec
     decode-requires
-    waits-of-requires
     below32-requires
     without32-requires
-    gathered-requires
+    waiting-for-requires
     without32-requires-2
     subset32-requires
     few-requires

@@ -12,11 +12,11 @@ joined-still-requires c κs = (c .before .before .pre, sym (c .before .subset32 
 returns : tie.Need-returns
 returns c = c .joined-still .ensures
 
-gathered-requires : tie.Need-gathered-requires
-gathered-requires c κs = search needs
+joined-requires : tie.Need-joined-requires
+joined-requires c κs = search needs
 
 returns-2 : tie.Need-returns-2
-returns-2 c = c .gathered .ensures
+returns-2 c = c .joined .ensures
 
 pub row-pass-spec : {M : Type 1} → statement M
-row-pass-spec = tie.close (tie.spec subset32-requires joined-still-requires returns gathered-requires returns-2)
+row-pass-spec = tie.close (tie.spec subset32-requires joined-still-requires returns joined-requires returns-2)

@@ -41,11 +41,11 @@ use denote.Triple.Table.{entered, cited}
 use denote.Triple.Walked.{says, Stays, stay-slice, stay-none-slice, stay-none, walkOf, Walks, ends-at, walked, goes-slice, goes-none-slice, goes-none, walk-meets}
 use Rattle.dispatch_rule.specs.declared.Head.{Head}
 use Rattle.dispatch_steps.specs.declared.Opening.{Opening}
-use Rattle.dispatch_steps.specs.Steps.{turnHeads, turnBoard}
+use Rattle.dispatch_steps.specs.Steps.{turnHeads}
 use Rattle.lfj_words.specs.Words.{tickWord}
 use Rattle.dispatcher.specs.Ticks.{tickAnswer, tickRow}
 use Rattle.dispatcher.proofs.Meaning.{tick-met}
-use Rattle.dispatcher.specs.Openings.{tickOpening, boardWord}
+use Rattle.dispatcher.specs.Openings.{tickOpening, turnWord}
 use Rattle.lfj_dispatch.proofs.Lending.{Kept, lend-row, row-back}
 use Rattle.lfj_dispatch.proofs.CallTurn.{Turn′, to-turn, goes-turn}
 use Rattle.lfj_dispatch.proofs.Values.{Hd, Op, openingTy, wordTy, setTy, bytesTy, rowTy, refTy, lentTy, first, openingVal, GoodOpening, opening-tells, opening-good}
@@ -128,10 +128,10 @@ module _ {M : Type 1} (𝓤 : URA M) (H : Heap 𝓤) (A : Atoms 𝓤) (W : Given
   Says k zs = (k ≡ tickWord (tickAnswer (now s) ys m)) × (zs ≡ tickRow (now s) ys m)
 
   -- and why: by what the two callees say, of a set that has 32 bits
-  met : m < 2 ^ 32 → (d : Opening) (k : ℕ) (zs : List Head) → d ≡ tickOpening (now s) n m → (k ≡ boardWord (turnBoard d ys)) × (zs ≡ turnHeads d ys) → Says k zs
+  met : m < 2 ^ 32 → (d : Opening) (k : ℕ) (zs : List Head) → d ≡ tickOpening (now s) n m → (k ≡ turnWord d ys) × (zs ≡ turnHeads d ys) → Says k zs
   met fits d k zs ed e =
       let r = tick-met (now s) ys m fits in
-      (e .0 ∙ (ap (λ (t : Opening). boardWord (turnBoard t ys)) ed ∙ r .0), e .1 ∙ (ap (λ (t : Opening). turnHeads t ys) ed ∙ r .1))
+      (e .0 ∙ (ap (λ (t : Opening). turnWord t ys) ed ∙ r .0), e .1 ∙ (ap (λ (t : Opening). turnHeads t ys) ed ∙ r .1))
 
   exits : m < 2 ^ 32 → (zs : List Head) (k : ℕ) (u : Val) → length zs ≡ n → Says k zs
       → ent 𝓤 (⋆ 𝓤 H A (‵ (u64 .own k (u ∷ [])) ∷ ‵ (Row zs) ∷ ‵ (flft κ q) ∷ (‵ (flft κ₀ q₀) ⊛ ‵ ftrue) ∷ ‵ Own ∷ [])) (Post u)
@@ -177,8 +177,8 @@ module _ {M : Type 1} (𝓤 : URA M) (H : Heap 𝓤) (A : Atoms 𝓤) (W : Given
         -- [what turn asks; what is kept of the row; true; what the set owns; the record's token; what it owns; _7 at 6; …; _4 at 12; …]
         calls-at ! fm (Turn′ 𝓤 H A mem run) known₂ (to-turn 𝓤 H A W mem run b o ys ν δ d) (and-then ! (load ! (from ! (stop !)) (look ! 6 refl)) (and-then ! (load ! (from ! (stop !)) (look ! 12 refl)) (no-more !))) (λ u.
         use1 W (later (some (λ (k : ℕ). ((‵ (flft (ν ∷ []) fullShare) ⊛ ‵ ftrue) ⊛ ‵ (u64 .own k (u ∷ []))) ⊛ raw (ensured 𝓤 H A turn.ended (turn.clauses 𝓤 H A mem run) (ν ∷ [], tt) (x δ ys, (d, tt)) tt k)))) (id⊢ 𝓤 _) $ await ! tt $ pick ! (λ k.
-        split ! $ move ! (1 ∷ []) $ use1 W (some (λ (zs : List Head × (Unit {0} × Unit {0})). ‵ (lasts turn.ended (ν ∷ [], tt) (x δ ys, (d, tt)) zs) ⊛ raw (fact 𝓤 ((k ≡ boardWord (turnBoard d ys)) × (zs .0 ≡ turnHeads d ys))))) (id⊢ 𝓤 _) $ pick ! (λ zs.
-        split ! $ move ! (1 ∷ []) $ heard ! ((k ≡ boardWord (turnBoard d ys)) × (zs .0 ≡ turnHeads d ys)) (λ e. fsplit ! $ fsplit ! $ move ! (1 ∷ []) $ feqL ! (λ l.
+        split ! $ move ! (1 ∷ []) $ use1 W (some (λ (zs : List Head × (Unit {0} × Unit {0})). ‵ (lasts turn.ended (ν ∷ [], tt) (x δ ys, (d, tt)) zs) ⊛ raw (fact 𝓤 ((k ≡ turnWord d ys) × (zs .0 ≡ turnHeads d ys))))) (id⊢ 𝓤 _) $ pick ! (λ zs.
+        split ! $ move ! (1 ∷ []) $ heard ! ((k ≡ turnWord d ys) × (zs .0 ≡ turnHeads d ys)) (λ e. fsplit ! $ fsplit ! $ move ! (1 ∷ []) $ feqL ! (λ l.
         move ! (2 ∷ []) $ split ! $ move ! (1 ∷ []) $ peeks ! u64 (Is u64) (shows 𝓤 H A u64) k (u ∷ []) (λ is.
         -- [the word; the lifetime; the last row; …; what is kept of the row; true; what the set owns; the record's token; what it owns; _7 at 9; …; _0 at 23; …]
         land ! (from ! (stop !)) (init ! 23 refl (uint-lawful 𝓤 H A W w64 .typed k _ is .0)) $

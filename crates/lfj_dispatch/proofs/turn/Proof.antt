@@ -1,5 +1,5 @@
--- `lfj_dispatch::turn` meets its contract: a walk of its MIR, by hand. The board and the plan are read out of the opening. The row is lent again to `sweep`, twice, each time for a lifetime that is made for the call, and comes back at the row
--- that `sweep` left (`Lending.antt`); between the two `second` is called, and `word_of` makes the answer. All of them are known by their contracts alone.
+-- `lfj_dispatch::turn` meets its contract: a walk of its MIR, by hand. The board, the plan and the refusal are read out of the opening. The row is lent again to `sweep`, twice, each time for a lifetime that is made for the call, and
+-- comes back at the row that `sweep` left (`Lending.antt`); between the two `second` is called, and `word_of` makes the answer. All of them are known by their contracts alone.
 use mathlib.Core.Path.{_≡_, refl, sym, ap, ap₂, _∙_, subst}
 use Prim.Native.Nat.{ℕ}
 use mathlib.Core.List.{List, [], _∷_}
@@ -38,14 +38,17 @@ use denote.Triple.Entry.{Vals, onEntry}
 use denote.Triple.Spec.{Meets, tripleOf}
 use denote.Triple.Table.{entered, cited}
 use denote.Triple.Walked.{says, Stays, stay-slice, stay-none, walkOf, Walks, ends-at, walked, goes-slice, goes-none, walk-meets}
+use Rattle.record_rules.specs.declared.Refusal.{Refusal}
 use Rattle.dispatch_rule.specs.declared.Head.{Head}
 use Rattle.dispatch_steps.specs.declared.Board.{Board}
 use Rattle.dispatch_steps.specs.declared.Plan.{Plan}
 use Rattle.dispatch_steps.specs.declared.Opening.{Opening}
 use Rattle.dispatch_steps.specs.Steps.{sweepHeads, sweepBoard, secondOf, turnHeads, turnBoard}
-use Rattle.dispatcher.specs.Openings.{boardWord}
+use Rattle.dispatcher.specs.Openings.{boardWord, turnWord}
 use Rattle.lfj_dispatch.proofs.Lending.{Kept, lend-row, row-back}
-use Rattle.lfj_dispatch.proofs.Values.{Hd, Bd, Pl, Op, boardTy, planTy, openingTy, wordTy, rowTy, refTy, lentTy, first, boardVal, planVal, openingVal, GoodBoard, GoodPlan, GoodOpening, board-tells, board-good, opening-board, opening-plan}
+use Rattle.lfj_dispatch.proofs.Values.{Hd, Bd, Pl, Rf, Op, boardTy, planTy, refusalTy, openingTy, wordTy, rowTy, refTy, lentTy, first, boardVal, planVal, refusalVal, openingVal, GoodBoard, GoodPlan, GoodRefusal, GoodOpening, board-tells, board-good, opening-board, opening-plan, opening-refusal}
+use Rattle.record_rules.proofs.Refusal as F
+use Rattle.record_rules.proofs.Refusal.Laws as F′
 use Rattle.dispatch_steps.proofs.Board as B
 use Rattle.dispatch_steps.proofs.Board.Laws as B′
 use Rattle.dispatch_steps.proofs.Plan as P
@@ -77,13 +80,13 @@ stayed = (stay-slice (0 ∷ []) tt (plain (λ _. Hd)), (stay-none (λ _. Op) yes
 
 -- the function's locals are allocated, whatever comes after: over a goal that is a variable the kernel does not write the body out at each local
 abbrev locals : List Local
-locals = local wordTy valueLocal ∷ local slice valueLocal ∷ local openingTy valueLocal ∷ local boardTy valueLocal ∷ local planTy valueLocal ∷ local boardTy valueLocal ∷ local boardTy valueLocal ∷ local boardTy valueLocal ∷ local refTy valueLocal ∷ local lentTy valueLocal ∷ local refTy valueLocal ∷ local lentTy valueLocal ∷ []
+locals = local wordTy valueLocal ∷ local slice valueLocal ∷ local openingTy valueLocal ∷ local boardTy valueLocal ∷ local planTy valueLocal ∷ local refusalTy valueLocal ∷ local boardTy valueLocal ∷ local boardTy valueLocal ∷ local boardTy valueLocal ∷ local refTy valueLocal ∷ local lentTy valueLocal ∷ local refTy valueLocal ∷ local lentTy valueLocal ∷ []
 
 module _ {M : Type 1} (𝓤 : URA M) (H : Heap 𝓤) (A : Atoms 𝓤) (W : Given 𝓤 H A) where
   allocated : (Γ : List (Item 𝓤)) (Kt : Env 𝓤 H → Goal 𝓤 H)
-      → ((l₀ l₁ l₂ l₃ l₄ l₅ l₆ l₇ l₈ l₉ l₁₀ l₁₁ : ℕ) → Seq (Go {0}) W (‵ (froom lentTy l₁₁ 0) ∷ ‵ (fdies lentTy l₁₁) ∷ ‵ (froom refTy l₁₀ 0) ∷ ‵ (fdies refTy l₁₀) ∷ ‵ (froom lentTy l₉ 0) ∷ ‵ (fdies lentTy l₉) ∷ ‵ (froom refTy l₈ 0) ∷ ‵ (fdies refTy l₈) ∷ ‵ (froom boardTy l₇ 0) ∷ ‵ (fdies boardTy l₇) ∷ ‵ (froom boardTy l₆ 0) ∷ ‵ (fdies boardTy l₆) ∷ ‵ (froom boardTy l₅ 0) ∷ ‵ (fdies boardTy l₅) ∷ ‵ (froom planTy l₄ 0) ∷ ‵ (fdies planTy l₄) ∷ ‵ (froom boardTy l₃ 0) ∷ ‵ (fdies boardTy l₃) ∷ ‵ (froom openingTy l₂ 0) ∷ ‵ (fdies openingTy l₂) ∷ ‵ (froom slice l₁ 0) ∷ ‵ (fdies slice l₁) ∷ ‵ (froom wordTy l₀ 0) ∷ ‵ (fdies wordTy l₀) ∷ Γ) (Kt ((wordTy, l₀) ∷ (slice, l₁) ∷ (openingTy, l₂) ∷ (boardTy, l₃) ∷ (planTy, l₄) ∷ (boardTy, l₅) ∷ (boardTy, l₆) ∷ (boardTy, l₇) ∷ (refTy, l₈) ∷ (lentTy, l₉) ∷ (refTy, l₁₀) ∷ (lentTy, l₁₁) ∷ [])))
+      → ((l₀ l₁ l₂ l₃ l₄ l₅ l₆ l₇ l₈ l₉ l₁₀ l₁₁ l₁₂ : ℕ) → Seq (Go {0}) W (‵ (froom lentTy l₁₂ 0) ∷ ‵ (fdies lentTy l₁₂) ∷ ‵ (froom refTy l₁₁ 0) ∷ ‵ (fdies refTy l₁₁) ∷ ‵ (froom lentTy l₁₀ 0) ∷ ‵ (fdies lentTy l₁₀) ∷ ‵ (froom refTy l₉ 0) ∷ ‵ (fdies refTy l₉) ∷ ‵ (froom boardTy l₈ 0) ∷ ‵ (fdies boardTy l₈) ∷ ‵ (froom boardTy l₇ 0) ∷ ‵ (fdies boardTy l₇) ∷ ‵ (froom boardTy l₆ 0) ∷ ‵ (fdies boardTy l₆) ∷ ‵ (froom refusalTy l₅ 0) ∷ ‵ (fdies refusalTy l₅) ∷ ‵ (froom planTy l₄ 0) ∷ ‵ (fdies planTy l₄) ∷ ‵ (froom boardTy l₃ 0) ∷ ‵ (fdies boardTy l₃) ∷ ‵ (froom openingTy l₂ 0) ∷ ‵ (fdies openingTy l₂) ∷ ‵ (froom slice l₁ 0) ∷ ‵ (fdies slice l₁) ∷ ‵ (froom wordTy l₀ 0) ∷ ‵ (fdies wordTy l₀) ∷ Γ) (Kt ((wordTy, l₀) ∷ (slice, l₁) ∷ (openingTy, l₂) ∷ (boardTy, l₃) ∷ (planTy, l₄) ∷ (refusalTy, l₅) ∷ (boardTy, l₆) ∷ (boardTy, l₇) ∷ (boardTy, l₈) ∷ (refTy, l₉) ∷ (lentTy, l₁₀) ∷ (refTy, l₁₁) ∷ (lentTy, l₁₂) ∷ [])))
       → Seq (Go {0}) W Γ (allocs locals Kt)
-  allocated Γ Kt k = alloc1 ! (λ l₀. alloc1 ! (λ l₁. alloc1 ! (λ l₂. alloc1 ! (λ l₃. alloc1 ! (λ l₄. alloc1 ! (λ l₅. alloc1 ! (λ l₆. alloc1 ! (λ l₇. alloc1 ! (λ l₈. alloc1 ! (λ l₉. alloc1 ! (λ l₁₀. alloc1 ! (λ l₁₁. alloc0 ! $ k l₀ l₁ l₂ l₃ l₄ l₅ l₆ l₇ l₈ l₉ l₁₀ l₁₁))))))))))))
+  allocated Γ Kt k = alloc1 ! (λ l₀. alloc1 ! (λ l₁. alloc1 ! (λ l₂. alloc1 ! (λ l₃. alloc1 ! (λ l₄. alloc1 ! (λ l₅. alloc1 ! (λ l₆. alloc1 ! (λ l₇. alloc1 ! (λ l₈. alloc1 ! (λ l₉. alloc1 ! (λ l₁₀. alloc1 ! (λ l₁₁. alloc1 ! (λ l₁₂. alloc0 ! $ k l₀ l₁ l₂ l₃ l₄ l₅ l₆ l₇ l₈ l₉ l₁₀ l₁₁ l₁₂)))))))))))))
 
 module _ {M : Type 1} (𝓤 : URA M) (H : Heap 𝓤) (A : Atoms 𝓤) (mem : Memory → SProp 𝓤) (run : Routine → Fun 𝓤) where
   -- the contracts that the proof cites
@@ -99,8 +102,8 @@ module _ {M : Type 1} (𝓤 : URA M) (H : Heap 𝓤) (A : Atoms 𝓤) (mem : Mem
   second-said : (d r : Board) → ent 𝓤 (ensured 𝓤 H A second′.ended (second′.clauses 𝓤 H A mem run) tt (d, tt) tt r) (fact 𝓤 (r ≡ secondOf d))
   second-said d r = exE 𝓤 _ (λ ws. snd∗ 𝓤 (sem 𝓤 H A (lasts second′.ended tt (d, tt) ws)) (fact 𝓤 (r ≡ secondOf d)))
 
-  word-said : (d : Board) (k : ℕ) → ent 𝓤 (ensured 𝓤 H A word.ended (word.clauses 𝓤 H A mem run) tt (d, tt) tt k) (fact 𝓤 (k ≡ boardWord d))
-  word-said d k = exE 𝓤 _ (λ ws. snd∗ 𝓤 (sem 𝓤 H A (lasts word.ended tt (d, tt) ws)) (fact 𝓤 (k ≡ boardWord d)))
+  word-said : (d : Board) (f : Refusal) (k : ℕ) → ent 𝓤 (ensured 𝓤 H A word.ended (word.clauses 𝓤 H A mem run) tt (d, (f, tt)) tt k) (fact 𝓤 (k ≡ boardWord d f))
+  word-said d f k = exE 𝓤 _ (λ ws. snd∗ 𝓤 (sem 𝓤 H A (lasts word.ended tt (d, (f, tt)) ws)) (fact 𝓤 (k ≡ boardWord d f)))
 
 module _ {M : Type 1} (𝓤 : URA M) (H : Heap 𝓤) (A : Atoms 𝓤) (W : Given 𝓤 H A) (mem : Memory → SProp 𝓤) (run : Routine → Fun 𝓤) (κ : Lft) (q : Share) (b o : ℕ) (γ : GName) (ys : List Head) (s : Opening) where
   abbrev x : GName → List Head → RefT (List Head)
@@ -136,7 +139,7 @@ module _ {M : Type 1} (𝓤 : URA M) (H : Heap 𝓤) (A : Atoms 𝓤) (W : Given
   unfolding turnBoard turnHeads
   turned zs d r ws ez ed er ew = (er ∙ ap₂ (sweepBoard p) ez ed, ew ∙ ap₂ (sweepHeads p) ez ed)
 
-  exits : GoodOpening s → (zs : List Head) (k : ℕ) (u : Val) → length zs ≡ n → (k ≡ boardWord (turnBoard s ys)) × (zs ≡ turnHeads s ys)
+  exits : GoodOpening s → (zs : List Head) (k : ℕ) (u : Val) → length zs ≡ n → (k ≡ turnWord s ys) × (zs ≡ turnHeads s ys)
       → ent 𝓤 (⋆ 𝓤 H A (‵ (u64 .own k (u ∷ [])) ∷ ‵ (Row zs) ∷ ‵ (flft κ q) ∷ [])) (Post u)
   exits gs zs k u len e =
       qed W (‵ (u64 .own k (u ∷ [])) ∷ ‵ (Row zs) ∷ ‵ (flft κ q) ∷ []) ∵
@@ -165,118 +168,119 @@ module _ {M : Type 1} (𝓤 : URA M) (H : Heap 𝓤) (A : Atoms 𝓤) (W : Given
       nothing ! $ move ! (1 ∷ 0 ∷ []) $ join ! $ nothing ! $ join ! $ frame ! $ done !
 
   -- the call of `word_of`
-  abbrev to-word : Board → Word′ 𝓤 H A mem run .Ghost
-  to-word d = ((tt, tt, tt, (d, tt), (boardVal d ∷ [], tt)), tt)
+  abbrev to-word : Board → Refusal → Word′ 𝓤 H A mem run .Ghost
+  to-word d f = ((tt, tt, tt, (d, (f, tt)), (boardVal d ∷ [], (refusalVal f ∷ [], tt))), tt)
 
-  goes-word : (d : Board) → ent 𝓤 (sem 𝓤 H A (Bd .own d (boardVal d ∷ []))) (Word′ 𝓤 H A mem run .pre (to-word d))
-  goes-word d =
+  goes-word : (d : Board) (f : Refusal) → GoodRefusal f → ent 𝓤 (sem 𝓤 H A (Bd .own d (boardVal d ∷ []))) (Word′ 𝓤 H A mem run .pre (to-word d f))
+  goes-word d f gf =
       qed W (‵ (Bd .own d (boardVal d ∷ [])) ∷ []) ∵
-      nothing ! $ move ! (1 ∷ 0 ∷ []) $ join ! $ nothing ! $ join ! $ frame ! $ done !
+      nothing ! $ owned ! Rf (Is Rf) (LL.makes F.the-type F′.the-plain 𝓤 H A) f _ gf $ fjoin ! $ move ! (1 ∷ 0 ∷ []) $ fjoin ! $ nothing ! $ join ! $ frame ! $ done !
 
   module _ (C : Calls 𝓤 H) (Λ : Loops 𝓤 H) (fm : FmC 𝓤 H (W .laws) C) (known₁ : Triple 𝓤 (C #lfj_dispatch·sweep) (Sweep′ 𝓤 H A mem run)) (known₂ : Triple 𝓤 (C #dispatch_steps·second) (Second′ 𝓤 H A mem run)) (known₃ : Triple 𝓤 (C #dispatcher·word-of) (Word′ 𝓤 H A mem run))
-      (room : Room Hd n) (gs : GoodOpening s) (l₀ l₁ l₂ l₃ l₄ l₅ l₆ l₇ l₈ l₉ l₁₀ l₁₁ : ℕ) where
+      (room : Room Hd n) (gs : GoodOpening s) (l₀ l₁ l₂ l₃ l₄ l₅ l₆ l₇ l₈ l₉ l₁₀ l₁₁ l₁₂ : ℕ) where
     abbrev En : Env 𝓤 H
-    En = (wordTy, l₀) ∷ (slice, l₁) ∷ (openingTy, l₂) ∷ (boardTy, l₃) ∷ (planTy, l₄) ∷ (boardTy, l₅) ∷ (boardTy, l₆) ∷ (boardTy, l₇) ∷ (refTy, l₈) ∷ (lentTy, l₉) ∷ (refTy, l₁₀) ∷ (lentTy, l₁₁) ∷ []
+    En = (wordTy, l₀) ∷ (slice, l₁) ∷ (openingTy, l₂) ∷ (boardTy, l₃) ∷ (planTy, l₄) ∷ (refusalTy, l₅) ∷ (boardTy, l₆) ∷ (boardTy, l₇) ∷ (boardTy, l₈) ∷ (refTy, l₉) ∷ (lentTy, l₁₀) ∷ (refTy, l₁₁) ∷ (lentTy, l₁₂) ∷ []
 
-    -- the row and the token are back; of the boards that the calls give (_5, _6, _7), one is set
-    -- [the row; the token; _11 at 2; …; _10 at 4; …; …; _1 at 22; …; _0 at 24; …]
+    -- the row and the token are back; of the boards that the calls give (_6, _7, _8), one is set
+    -- [the row; the token; _12 at 2; …; _11 at 4; …; …; _1 at 24; …; _0 at 26; …]
     abbrev Back : List Head → Item 𝓤 → Item 𝓤 → Item 𝓤 → List (Item 𝓤)
-    Back zs i₇ i₆ i₅ = ‵ (Row zs) ∷ ‵ (flft κ q)
-        ∷ ‵ (froom lentTy l₁₁ 0) ∷ ‵ (fdies lentTy l₁₁) ∷ ‵ (froom refTy l₁₀ 0) ∷ ‵ (fdies refTy l₁₀) ∷ ‵ (froom lentTy l₉ 0) ∷ ‵ (fdies lentTy l₉) ∷ ‵ (froom refTy l₈ 0) ∷ ‵ (fdies refTy l₈)
-        ∷ i₇ ∷ ‵ (fdies boardTy l₇) ∷ i₆ ∷ ‵ (fdies boardTy l₆) ∷ i₅ ∷ ‵ (fdies boardTy l₅) ∷ ‵ (fat fullShare planTy l₄ 0 (planVal p)) ∷ ‵ (fdies planTy l₄) ∷ ‵ (froom boardTy l₃ 0) ∷ ‵ (fdies boardTy l₃)
+    Back zs i₈ i₇ i₆ = ‵ (Row zs) ∷ ‵ (flft κ q)
+        ∷ ‵ (froom lentTy l₁₂ 0) ∷ ‵ (fdies lentTy l₁₂) ∷ ‵ (froom refTy l₁₁ 0) ∷ ‵ (fdies refTy l₁₁) ∷ ‵ (froom lentTy l₁₀ 0) ∷ ‵ (fdies lentTy l₁₀) ∷ ‵ (froom refTy l₉ 0) ∷ ‵ (fdies refTy l₉)
+        ∷ i₈ ∷ ‵ (fdies boardTy l₈) ∷ i₇ ∷ ‵ (fdies boardTy l₇) ∷ i₆ ∷ ‵ (fdies boardTy l₆) ∷ ‵ (fat fullShare refusalTy l₅ 0 (refusalVal (s .refusal))) ∷ ‵ (fdies refusalTy l₅) ∷ ‵ (fat fullShare planTy l₄ 0 (planVal p)) ∷ ‵ (fdies planTy l₄) ∷ ‵ (froom boardTy l₃ 0) ∷ ‵ (fdies boardTy l₃)
         ∷ ‵ (froom openingTy l₂ 0) ∷ ‵ (fdies openingTy l₂) ∷ ‵ (fat fullShare slice l₁ 0 v₁) ∷ ‵ (fdies slice l₁) ∷ ‵ (froom wordTy l₀ 0) ∷ ‵ (fdies wordTy l₀) ∷ []
 
     -- from the call of `word_of`
     words : (zs : List Head) (r : Board) → GoodBoard r → length zs ≡ n → (r ≡ turnBoard s ys) × (zs ≡ turnHeads s ys)
-        → ent 𝓤 (⋆ 𝓤 H A (Back zs (‵ (fat fullShare boardTy l₇ 0 (boardVal r))) (‵ (froom boardTy l₆ 0)) (‵ (froom boardTy l₅ 0)))) (Wp 𝓤 H C Λ En code.Mir.t-10 (atReturn 𝓤 H En Post))
+        → ent 𝓤 (⋆ 𝓤 H A (Back zs (‵ (fat fullShare boardTy l₈ 0 (boardVal r))) (‵ (froom boardTy l₇ 0)) (‵ (froom boardTy l₆ 0)))) (Wp 𝓤 H C Λ En code.Mir.t-11 (atReturn 𝓤 H En Post))
     words zs r gr len e =
-        qed W (Back zs (‵ (fat fullShare boardTy l₇ 0 (boardVal r))) (‵ (froom boardTy l₆ 0)) (‵ (froom boardTy l₅ 0))) ∵ exec ! C Λ En code.Mir.t-10 (atRet En Post) $
-        owned ! Bd (Is Bd) (LL.makes B.the-type B′.the-plain 𝓤 H A) r _ gr $ use1 W (raw (Word′ 𝓤 H A mem run .pre (to-word r))) (goes-word r) $
-        -- [what word_of asks; the row; the token; _11 at 3; …; _7 at 11; …]
-        calls-at ! fm (Word′ 𝓤 H A mem run) known₃ (to-word r) (and-then ! (load ! (from ! (stop !)) (look ! 11 refl)) (no-more !)) (λ u.
-        use1 W (later (some (λ (k : ℕ). (‵ ftrue ⊛ ‵ (u64 .own k (u ∷ []))) ⊛ raw (ensured 𝓤 H A word.ended (word.clauses 𝓤 H A mem run) tt (r, tt) tt k)))) (id⊢ 𝓤 _) $ await ! tt $ pick ! (λ k.
-        split ! $ move ! (1 ∷ []) $ use1 W (raw (fact 𝓤 (k ≡ boardWord r))) (word-said 𝓤 H A mem run r k) $ heard ! (k ≡ boardWord r) (λ f. split ! $ drop ! $
-        -- [the word; the row; the token; _11 at 3; …; _7 at 11; …; _4 at 17; …; _1 at 23; …; _0 at 25; …]
+        qed W (Back zs (‵ (fat fullShare boardTy l₈ 0 (boardVal r))) (‵ (froom boardTy l₇ 0)) (‵ (froom boardTy l₆ 0))) ∵ exec ! C Λ En code.Mir.t-11 (atRet En Post) $
+        owned ! Bd (Is Bd) (LL.makes B.the-type B′.the-plain 𝓤 H A) r _ gr $ use1 W (raw (Word′ 𝓤 H A mem run .pre (to-word r (s .refusal)))) (goes-word r (s .refusal) (opening-refusal s gs)) $
+        -- [what word_of asks; the row; the token; _12 at 3; …; _8 at 11; …; _5 at 17; …]
+        calls-at ! fm (Word′ 𝓤 H A mem run) known₃ (to-word r (s .refusal)) (and-then ! (load ! (from ! (stop !)) (look ! 11 refl)) (and-then ! (load ! (from ! (stop !)) (look ! 17 refl)) (no-more !))) (λ u.
+        use1 W (later (some (λ (k : ℕ). (‵ ftrue ⊛ ‵ (u64 .own k (u ∷ []))) ⊛ raw (ensured 𝓤 H A word.ended (word.clauses 𝓤 H A mem run) tt (r, (s .refusal, tt)) tt k)))) (id⊢ 𝓤 _) $ await ! tt $ pick ! (λ k.
+        split ! $ move ! (1 ∷ []) $ use1 W (raw (fact 𝓤 (k ≡ boardWord r (s .refusal)))) (word-said 𝓤 H A mem run r (s .refusal) k) $ heard ! (k ≡ boardWord r (s .refusal)) (λ f. split ! $ drop ! $
+        -- [the word; the row; the token; _12 at 3; …; _8 at 11; …; _5 at 17; …; _4 at 19; …; _1 at 25; …; _0 at 27; …]
         peeks ! u64 (Is u64) (shows 𝓤 H A u64) k (u ∷ []) (λ is.
-        land ! (from ! (stop !)) (init ! 25 refl (uint-lawful 𝓤 H A W w64 .typed k _ is .0)) $
-        returns ! (look ! 25 refl) $ forget ! 11 refl $ forget ! 17 refl $ forget ! 23 refl $ forget ! 25 refl $
-        move ! (25 ∷ 26 ∷ []) $ free1 ! $ move ! (23 ∷ 24 ∷ []) $ free1 ! $ move ! (21 ∷ 22 ∷ []) $ free1 ! $ move ! (19 ∷ 20 ∷ []) $ free1 ! $ move ! (17 ∷ 18 ∷ []) $ free1 ! $ move ! (15 ∷ 16 ∷ []) $ free1 ! $
+        land ! (from ! (stop !)) (init ! 27 refl (uint-lawful 𝓤 H A W w64 .typed k _ is .0)) $
+        returns ! (look ! 27 refl) $ forget ! 11 refl $ forget ! 17 refl $ forget ! 19 refl $ forget ! 25 refl $ forget ! 27 refl $
+        move ! (27 ∷ 28 ∷ []) $ free1 ! $ move ! (25 ∷ 26 ∷ []) $ free1 ! $ move ! (23 ∷ 24 ∷ []) $ free1 ! $ move ! (21 ∷ 22 ∷ []) $ free1 ! $ move ! (19 ∷ 20 ∷ []) $ free1 ! $ move ! (17 ∷ 18 ∷ []) $ free1 ! $ move ! (15 ∷ 16 ∷ []) $ free1 ! $
         move ! (13 ∷ 14 ∷ []) $ free1 ! $ move ! (11 ∷ 12 ∷ []) $ free1 ! $ move ! (9 ∷ 10 ∷ []) $ free1 ! $ move ! (7 ∷ 8 ∷ []) $ free1 ! $ move ! (5 ∷ 6 ∷ []) $ free1 ! $ move ! (3 ∷ 4 ∷ []) $ free1 ! $ free0 ! $
-        by ! (exits gs zs k u len (f ∙ ap boardWord (e .0), e .1))))))
+        by ! (exits gs zs k u len (f ∙ ap (λ (t : Board). boardWord t (s .refusal)) (e .0), e .1))))))
 
     -- from the second time that the row is lent: its list zs is as long as ys by an equation, so the slice and what is owned are rewritten, there and back
     last : (zs : List Head) (d : Board) → GoodBoard d → length zs ≡ n → zs ≡ sweepHeads p ys (s .board) → d ≡ secondOf (sweepBoard p ys (s .board))
-        → ent 𝓤 (⋆ 𝓤 H A (Back zs (‵ (froom boardTy l₇ 0)) (‵ (fat fullShare boardTy l₆ 0 (boardVal d))) (‵ (froom boardTy l₅ 0)))) (Wp 𝓤 H C Λ En code.Mir.t-7 (atReturn 𝓤 H En Post))
+        → ent 𝓤 (⋆ 𝓤 H A (Back zs (‵ (froom boardTy l₈ 0)) (‵ (fat fullShare boardTy l₇ 0 (boardVal d))) (‵ (froom boardTy l₆ 0)))) (Wp 𝓤 H C Λ En code.Mir.t-8 (atReturn 𝓤 H En Post))
     last zs d gd len ez ed =
-        qed W (Back zs (‵ (froom boardTy l₇ 0)) (‵ (fat fullShare boardTy l₆ 0 (boardVal d))) (‵ (froom boardTy l₅ 0))) ∵ exec ! C Λ En code.Mir.t-7 (atRet En Post) $
-        assigns ! (addr ! (from ! (fld ! refl (hop ! (look-in ! 22 (sub ! 0 refl (whole !))) (stop !))))) (from ! (stop !)) (init ! 4 refl (tt, tt)) $
-        assigns ! (agg ! (and-then ! (load ! (from ! (stop !)) (look ! 4 refl)) (and-then ! (load ! (from ! (fld ! refl (stop !))) (look-in ! 22 (sub ! 1 refl (whole !)))) (no-more !)))) (from ! (stop !)) (init ! 2 refl (tt, (tt, (record { fits = room .0 }, tt)))) $
-        rewrite ! 2 (λ (m : ℕ). ‵ (fat fullShare lentTy l₁₁ 0 (sliceVal (b, o) m))) (sym len) refl $
+        qed W (Back zs (‵ (froom boardTy l₈ 0)) (‵ (fat fullShare boardTy l₇ 0 (boardVal d))) (‵ (froom boardTy l₆ 0))) ∵ exec ! C Λ En code.Mir.t-8 (atRet En Post) $
+        assigns ! (addr ! (from ! (fld ! refl (hop ! (look-in ! 24 (sub ! 0 refl (whole !))) (stop !))))) (from ! (stop !)) (init ! 4 refl (tt, tt)) $
+        assigns ! (agg ! (and-then ! (load ! (from ! (stop !)) (look ! 4 refl)) (and-then ! (load ! (from ! (fld ! refl (stop !))) (look-in ! 24 (sub ! 1 refl (whole !)))) (no-more !)))) (from ! (stop !)) (init ! 2 refl (tt, (tt, (record { fits = room .0 }, tt)))) $
+        rewrite ! 2 (λ (m : ℕ). ‵ (fat fullShare lentTy l₁₂ 0 (sliceVal (b, o) m))) (sym len) refl $
         rewrite ! 0 (λ (m : ℕ). ‵ (MutSlice (named 0) κ Hd .own (x γ zs) (sliceVal (b, o) m ∷ []))) (sym len) refl $
         move ! (1 ∷ []) $ lft-new ! tt (λ ν. move ! (2 ∷ 1 ∷ []) $
         use2 W (later (some (λ (δ : GName). ‵ (MutSlice (named 0) (ν ∷ []) Hd .own (x δ zs) (sliceVal (b, o) (length zs) ∷ [])) ⊛ ‵ (Kept κ q γ b o ν δ zs)))) (lend-row κ q γ b o ν 𝓤 H A W 0 zs) $ await ! tt $ pick ! (λ δ. split ! $
         move ! (2 ∷ 0 ∷ []) $ use2 W (raw (Sweep′ 𝓤 H A mem run .pre (to-sweep ν δ zs d))) (goes-sweep ν δ zs d gd (opening-plan s gs)) $
-        -- [what sweep asks; what is kept of the row; _11 at 2; …; _6 at 12; …; _4 at 16; …]
-        calls-at ! fm (Sweep′ 𝓤 H A mem run) known₁ (to-sweep ν δ zs d) (and-then ! (load ! (from ! (stop !)) (look ! 2 refl)) (and-then ! (load ! (from ! (stop !)) (look ! 12 refl)) (and-then ! (load ! (from ! (stop !)) (look ! 16 refl)) (no-more !)))) (λ w.
+        -- [what sweep asks; what is kept of the row; _12 at 2; …; _7 at 12; …; _4 at 18; …]
+        calls-at ! fm (Sweep′ 𝓤 H A mem run) known₁ (to-sweep ν δ zs d) (and-then ! (load ! (from ! (stop !)) (look ! 2 refl)) (and-then ! (load ! (from ! (stop !)) (look ! 12 refl)) (and-then ! (load ! (from ! (stop !)) (look ! 18 refl)) (no-more !)))) (λ w.
         use1 W (later (some (λ (r : Board). ((‵ (flft (ν ∷ []) fullShare) ⊛ ‵ ftrue) ⊛ ‵ (Bd .own r (w ∷ []))) ⊛ raw (ensured 𝓤 H A sweep.ended (sweep.clauses 𝓤 H A mem run) (ν ∷ [], tt) (x δ zs, (d, (p, tt))) tt r)))) (id⊢ 𝓤 _) $ await ! tt $ pick ! (λ r.
         split ! $ move ! (1 ∷ []) $ use1 W (some (λ (ws : List Head × (Unit {0} × (Unit {0} × Unit {0}))). ‵ (lasts sweep.ended (ν ∷ [], tt) (x δ zs, (d, (p, tt))) ws) ⊛ raw (fact 𝓤 ((r ≡ sweepBoard p zs d) × (ws .0 ≡ sweepHeads p zs d))))) (id⊢ 𝓤 _) $ pick ! (λ ws.
         split ! $ move ! (1 ∷ []) $ heard ! ((r ≡ sweepBoard p zs d) × (ws .0 ≡ sweepHeads p zs d)) (λ e. fsplit ! $ fsplit ! $ move ! (1 ∷ []) $ feqL ! (λ l.
         move ! (2 ∷ []) $ split ! $ move ! (1 ∷ []) $ peeks ! Bd (Is Bd) (shows 𝓤 H A Bd) r (w ∷ []) (λ is.
-        -- [what the answer owns; the lifetime; the last row; …; what is kept of the row; _11 at 5; …; _7 at 13; …]
-        land ! (from ! (stop !)) (init ! 13 refl (LL.lawful B.the-type B′.the-laws 𝓤 H A W .typed r _ is .0)) $ rewrite ! 13 (λ (u : Val). ‵ (fat fullShare boardTy l₇ 0 u)) (ap first (board-tells r w is)) refl $
+        -- [what the answer owns; the lifetime; the last row; …; what is kept of the row; _12 at 5; …; _8 at 13; …]
+        land ! (from ! (stop !)) (init ! 13 refl (LL.lawful B.the-type B′.the-laws 𝓤 H A W .typed r _ is .0)) $ rewrite ! 13 (λ (u : Val). ‵ (fat fullShare boardTy l₈ 0 u)) (ap first (board-tells r w is)) refl $
         move ! (1 ∷ []) $ split ! $ lft-end ! tt $ move ! (0 ∷ 5 ∷ 3 ∷ []) $
         use3 W (later (‵ (MutSlice (named 0) κ Hd .own (x γ (ws .0)) (sliceVal (b, o) (length zs) ∷ [])) ⊛ ‵ (flft κ q))) (row-back κ q γ b o ν 𝓤 H A W 0 zs δ (ws .0) (subst (Room Hd) (sym len) room) l) $ await ! tt $ split ! $
         rewrite ! 0 (λ (m : ℕ). ‵ (MutSlice (named 0) κ Hd .own (x γ (ws .0)) (sliceVal (b, o) m ∷ []))) len refl $
-        -- [the row; the token; …; …; …; _11 at 5; …; _10 at 7; …; _6 at 15; …; _0 at 27; …]
+        -- [the row; the token; …; …; …; _12 at 5; …; _11 at 7; …; _7 at 15; …; _0 at 29; …]
         forget ! 5 refl $ forget ! 7 refl $ forget ! 15 refl $
-        keep ! (0 ∷ 1 ∷ 5 ∷ 6 ∷ 7 ∷ 8 ∷ 9 ∷ 10 ∷ 11 ∷ 12 ∷ 13 ∷ 14 ∷ 15 ∷ 16 ∷ 17 ∷ 18 ∷ 19 ∷ 20 ∷ 21 ∷ 22 ∷ 23 ∷ 24 ∷ 25 ∷ 26 ∷ 27 ∷ 28 ∷ []) $
+        keep ! (0 ∷ 1 ∷ 5 ∷ 6 ∷ 7 ∷ 8 ∷ 9 ∷ 10 ∷ 11 ∷ 12 ∷ 13 ∷ 14 ∷ 15 ∷ 16 ∷ 17 ∷ 18 ∷ 19 ∷ 20 ∷ 21 ∷ 22 ∷ 23 ∷ 24 ∷ 25 ∷ 26 ∷ 27 ∷ 28 ∷ 29 ∷ 30 ∷ []) $
         by ! (words (ws .0) r (board-good r w is) (l ∙ len) (turned zs d r (ws .0) ez ed (e .0) (e .1)))))))))))
 
     -- from the call of `second`
     mid : (zs : List Head) (r : Board) → GoodBoard r → length zs ≡ n → zs ≡ sweepHeads p ys (s .board) → r ≡ sweepBoard p ys (s .board)
-        → ent 𝓤 (⋆ 𝓤 H A (Back zs (‵ (froom boardTy l₇ 0)) (‵ (froom boardTy l₆ 0)) (‵ (fat fullShare boardTy l₅ 0 (boardVal r))))) (Wp 𝓤 H C Λ En code.Mir.t-6 (atReturn 𝓤 H En Post))
+        → ent 𝓤 (⋆ 𝓤 H A (Back zs (‵ (froom boardTy l₈ 0)) (‵ (froom boardTy l₇ 0)) (‵ (fat fullShare boardTy l₆ 0 (boardVal r))))) (Wp 𝓤 H C Λ En code.Mir.t-7 (atReturn 𝓤 H En Post))
     mid zs r gr len ez er =
-        qed W (Back zs (‵ (froom boardTy l₇ 0)) (‵ (froom boardTy l₆ 0)) (‵ (fat fullShare boardTy l₅ 0 (boardVal r)))) ∵ exec ! C Λ En code.Mir.t-6 (atRet En Post) $
+        qed W (Back zs (‵ (froom boardTy l₈ 0)) (‵ (froom boardTy l₇ 0)) (‵ (fat fullShare boardTy l₆ 0 (boardVal r)))) ∵ exec ! C Λ En code.Mir.t-7 (atRet En Post) $
         owned ! Bd (Is Bd) (LL.makes B.the-type B′.the-plain 𝓤 H A) r _ gr $ use1 W (raw (Second′ 𝓤 H A mem run .pre (to-second r))) (goes-second r) $
-        -- [what second asks; the row; the token; _11 at 3; …; _5 at 15; …]
+        -- [what second asks; the row; the token; _12 at 3; …; _6 at 15; …]
         calls-at ! fm (Second′ 𝓤 H A mem run) known₂ (to-second r) (and-then ! (load ! (from ! (stop !)) (look ! 15 refl)) (no-more !)) (λ v.
         use1 W (later (some (λ (d : Board). (‵ ftrue ⊛ ‵ (Bd .own d (v ∷ []))) ⊛ raw (ensured 𝓤 H A second′.ended (second′.clauses 𝓤 H A mem run) tt (r, tt) tt d)))) (id⊢ 𝓤 _) $ await ! tt $ pick ! (λ d.
         split ! $ move ! (1 ∷ []) $ use1 W (raw (fact 𝓤 (d ≡ secondOf r))) (second-said 𝓤 H A mem run r d) $ heard ! (d ≡ secondOf r) (λ e. split ! $ drop ! $
-        -- [what the answer owns; the row; the token; _11 at 3; …; _6 at 13; …]
+        -- [what the answer owns; the row; the token; _12 at 3; …; _7 at 13; …]
         peeks ! Bd (Is Bd) (shows 𝓤 H A Bd) d (v ∷ []) (λ is.
-        land ! (from ! (stop !)) (init ! 13 refl (LL.lawful B.the-type B′.the-laws 𝓤 H A W .typed d _ is .0)) $ rewrite ! 13 (λ (u : Val). ‵ (fat fullShare boardTy l₆ 0 u)) (ap first (board-tells d v is)) refl $
+        land ! (from ! (stop !)) (init ! 13 refl (LL.lawful B.the-type B′.the-laws 𝓤 H A W .typed d _ is .0)) $ rewrite ! 13 (λ (u : Val). ‵ (fat fullShare boardTy l₇ 0 u)) (ap first (board-tells d v is)) refl $
         drop ! $ forget ! 14 refl $ by ! (last zs d (board-good d v is) len ez (e ∙ ap secondOf er))))))
 
-    -- at the function's first statement: each local and that it dies, _11 at 0, _10 at 2, …, _2 at 18, _1 at 20, _0 at 22; the token at 24; what the parameters own at 25
+    -- at the function's first statement: each local and that it dies, _12 at 0, _11 at 2, …, _2 at 20, _1 at 22, _0 at 24; the token at 26; what the parameters own at 27
     abbrev First : List (Item 𝓤)
-    First = ‵ (froom lentTy l₁₁ 0) ∷ ‵ (fdies lentTy l₁₁) ∷ ‵ (froom refTy l₁₀ 0) ∷ ‵ (fdies refTy l₁₀) ∷ ‵ (froom lentTy l₉ 0) ∷ ‵ (fdies lentTy l₉) ∷ ‵ (froom refTy l₈ 0) ∷ ‵ (fdies refTy l₈)
-        ∷ ‵ (froom boardTy l₇ 0) ∷ ‵ (fdies boardTy l₇) ∷ ‵ (froom boardTy l₆ 0) ∷ ‵ (fdies boardTy l₆) ∷ ‵ (froom boardTy l₅ 0) ∷ ‵ (fdies boardTy l₅) ∷ ‵ (froom planTy l₄ 0) ∷ ‵ (fdies planTy l₄) ∷ ‵ (froom boardTy l₃ 0) ∷ ‵ (fdies boardTy l₃)
+    First = ‵ (froom lentTy l₁₂ 0) ∷ ‵ (fdies lentTy l₁₂) ∷ ‵ (froom refTy l₁₁ 0) ∷ ‵ (fdies refTy l₁₁) ∷ ‵ (froom lentTy l₁₀ 0) ∷ ‵ (fdies lentTy l₁₀) ∷ ‵ (froom refTy l₉ 0) ∷ ‵ (fdies refTy l₉)
+        ∷ ‵ (froom boardTy l₈ 0) ∷ ‵ (fdies boardTy l₈) ∷ ‵ (froom boardTy l₇ 0) ∷ ‵ (fdies boardTy l₇) ∷ ‵ (froom boardTy l₆ 0) ∷ ‵ (fdies boardTy l₆) ∷ ‵ (froom refusalTy l₅ 0) ∷ ‵ (fdies refusalTy l₅) ∷ ‵ (froom planTy l₄ 0) ∷ ‵ (fdies planTy l₄) ∷ ‵ (froom boardTy l₃ 0) ∷ ‵ (fdies boardTy l₃)
         ∷ ‵ (fat fullShare openingTy l₂ 0 (openingVal s)) ∷ ‵ (fdies openingTy l₂) ∷ ‵ (fat fullShare slice l₁ 0 v₁) ∷ ‵ (fdies slice l₁) ∷ ‵ (froom wordTy l₀ 0) ∷ ‵ (fdies wordTy l₀)
         ∷ (‵ (flft κ q) ⊛ ‵ ftrue) ∷ ‵ (owns (MutSlice (named 0) κ Hd ∷ Op ∷ []) a at) ∷ []
 
     starts : ent 𝓤 (⋆ 𝓤 H A First) (Wp 𝓤 H C Λ En code.Mir.t-1 (atReturn 𝓤 H En Post))
     starts =
         qed W First ∵ exec ! C Λ En code.Mir.t-1 (atRet En Post) $
-        assigns ! (of-opd ! (load ! (from ! (fld ! refl (stop !))) (look-in ! 18 (sub ! 0 refl (whole !))))) (from ! (stop !)) (init ! 16 refl (LL.lawful B.the-type B′.the-laws 𝓤 H A W .typed (s .board) _ (opening-board s gs) .0)) $
-        assigns ! (of-opd ! (load ! (from ! (fld ! refl (stop !))) (look-in ! 18 (sub ! 1 refl (whole !))))) (from ! (stop !)) (init ! 14 refl (LL.lawful P.the-type P′.the-laws 𝓤 H A W .typed p _ (opening-plan s gs) .0)) $
-        assigns ! (addr ! (from ! (fld ! refl (hop ! (look-in ! 20 (sub ! 0 refl (whole !))) (stop !))))) (from ! (stop !)) (init ! 6 refl (tt, tt)) $
-        assigns ! (agg ! (and-then ! (load ! (from ! (stop !)) (look ! 6 refl)) (and-then ! (load ! (from ! (fld ! refl (stop !))) (look-in ! 20 (sub ! 1 refl (whole !)))) (no-more !)))) (from ! (stop !)) (init ! 4 refl (tt, (tt, (record { fits = room .0 }, tt)))) $
-        move ! (25 ∷ []) $ fsplit ! $ move ! (26 ∷ []) $ split ! $ lft-new ! tt (λ ν. move ! (3 ∷ 1 ∷ []) $
+        assigns ! (of-opd ! (load ! (from ! (fld ! refl (stop !))) (look-in ! 20 (sub ! 0 refl (whole !))))) (from ! (stop !)) (init ! 18 refl (LL.lawful B.the-type B′.the-laws 𝓤 H A W .typed (s .board) _ (opening-board s gs) .0)) $
+        assigns ! (of-opd ! (load ! (from ! (fld ! refl (stop !))) (look-in ! 20 (sub ! 1 refl (whole !))))) (from ! (stop !)) (init ! 16 refl (LL.lawful P.the-type P′.the-laws 𝓤 H A W .typed p _ (opening-plan s gs) .0)) $
+        assigns ! (of-opd ! (load ! (from ! (fld ! refl (stop !))) (look-in ! 20 (sub ! 2 refl (whole !))))) (from ! (stop !)) (init ! 14 refl (LL.lawful F.the-type F′.the-laws 𝓤 H A W .typed (s .refusal) _ (opening-refusal s gs) .0)) $
+        assigns ! (addr ! (from ! (fld ! refl (hop ! (look-in ! 22 (sub ! 0 refl (whole !))) (stop !))))) (from ! (stop !)) (init ! 6 refl (tt, tt)) $
+        assigns ! (agg ! (and-then ! (load ! (from ! (stop !)) (look ! 6 refl)) (and-then ! (load ! (from ! (fld ! refl (stop !))) (look-in ! 22 (sub ! 1 refl (whole !)))) (no-more !)))) (from ! (stop !)) (init ! 4 refl (tt, (tt, (record { fits = room .0 }, tt)))) $
+        move ! (27 ∷ []) $ fsplit ! $ move ! (28 ∷ []) $ split ! $ lft-new ! tt (λ ν. move ! (3 ∷ 1 ∷ []) $
         use2 W (later (some (λ (δ : GName). ‵ (MutSlice (named 0) (ν ∷ []) Hd .own (x δ ys) (v₁ ∷ [])) ⊛ ‵ (Kept κ q γ b o ν δ ys)))) (lend-row κ q γ b o ν 𝓤 H A W 0 ys) $ await ! tt $ pick ! (λ δ. split ! $
         move ! (2 ∷ 0 ∷ []) $ use2 W (raw (Sweep′ 𝓤 H A mem run .pre (to-sweep ν δ ys (s .board)))) (goes-sweep ν δ ys (s .board) (opening-board s gs) (opening-plan s gs)) $
-        -- [what sweep asks; what is kept of the row; true; what the opening owns; _11 at 4; …; _9 at 8; …; _4 at 18; …; _3 at 20; …]
-        calls-at ! fm (Sweep′ 𝓤 H A mem run) known₁ (to-sweep ν δ ys (s .board)) (and-then ! (load ! (from ! (stop !)) (look ! 8 refl)) (and-then ! (load ! (from ! (stop !)) (look ! 20 refl)) (and-then ! (load ! (from ! (stop !)) (look ! 18 refl)) (no-more !)))) (λ w.
+        -- [what sweep asks; what is kept of the row; true; what the opening owns; _12 at 4; …; _10 at 8; …; _4 at 20; …; _3 at 22; …]
+        calls-at ! fm (Sweep′ 𝓤 H A mem run) known₁ (to-sweep ν δ ys (s .board)) (and-then ! (load ! (from ! (stop !)) (look ! 8 refl)) (and-then ! (load ! (from ! (stop !)) (look ! 22 refl)) (and-then ! (load ! (from ! (stop !)) (look ! 20 refl)) (no-more !)))) (λ w.
         use1 W (later (some (λ (r : Board). ((‵ (flft (ν ∷ []) fullShare) ⊛ ‵ ftrue) ⊛ ‵ (Bd .own r (w ∷ []))) ⊛ raw (ensured 𝓤 H A sweep.ended (sweep.clauses 𝓤 H A mem run) (ν ∷ [], tt) (x δ ys, (s .board, (p, tt))) tt r)))) (id⊢ 𝓤 _) $ await ! tt $ pick ! (λ r.
         split ! $ move ! (1 ∷ []) $ use1 W (some (λ (zs : List Head × (Unit {0} × (Unit {0} × Unit {0}))). ‵ (lasts sweep.ended (ν ∷ [], tt) (x δ ys, (s .board, (p, tt))) zs) ⊛ raw (fact 𝓤 ((r ≡ sweepBoard p ys (s .board)) × (zs .0 ≡ sweepHeads p ys (s .board)))))) (id⊢ 𝓤 _) $ pick ! (λ zs.
         split ! $ move ! (1 ∷ []) $ heard ! ((r ≡ sweepBoard p ys (s .board)) × (zs .0 ≡ sweepHeads p ys (s .board))) (λ e. fsplit ! $ fsplit ! $ move ! (1 ∷ []) $ feqL ! (λ l.
         move ! (2 ∷ []) $ split ! $ move ! (1 ∷ []) $ peeks ! Bd (Is Bd) (shows 𝓤 H A Bd) r (w ∷ []) (λ is.
-        -- [what the answer owns; the lifetime; the last row; …; what is kept of the row; true; what the opening owns; _11 at 7; …; _5 at 19; …]
-        land ! (from ! (stop !)) (init ! 19 refl (LL.lawful B.the-type B′.the-laws 𝓤 H A W .typed r _ is .0)) $ rewrite ! 19 (λ (u : Val). ‵ (fat fullShare boardTy l₅ 0 u)) (ap first (board-tells r w is)) refl $
+        -- [what the answer owns; the lifetime; the last row; …; what is kept of the row; true; what the opening owns; _12 at 7; …; _6 at 19; …]
+        land ! (from ! (stop !)) (init ! 19 refl (LL.lawful B.the-type B′.the-laws 𝓤 H A W .typed r _ is .0)) $ rewrite ! 19 (λ (u : Val). ‵ (fat fullShare boardTy l₆ 0 u)) (ap first (board-tells r w is)) refl $
         move ! (1 ∷ []) $ split ! $ lft-end ! tt $ move ! (0 ∷ 5 ∷ 3 ∷ []) $
         use3 W (later (‵ (Row (zs .0)) ⊛ ‵ (flft κ q))) (row-back κ q γ b o ν 𝓤 H A W 0 ys δ (zs .0) room l) $ await ! tt $ split ! $
-        -- [the row; the token; …; …; …; …; …; _11 at 7; …; _9 at 11; …; _8 at 13; …; _3 at 23; …; _2 at 25; …; _0 at 29; …]
-        forget ! 11 refl $ forget ! 13 refl $ forget ! 23 refl $ forget ! 25 refl $
-        keep ! (0 ∷ 1 ∷ 7 ∷ 8 ∷ 9 ∷ 10 ∷ 11 ∷ 12 ∷ 13 ∷ 14 ∷ 15 ∷ 16 ∷ 17 ∷ 18 ∷ 19 ∷ 20 ∷ 21 ∷ 22 ∷ 23 ∷ 24 ∷ 25 ∷ 26 ∷ 27 ∷ 28 ∷ 29 ∷ 30 ∷ []) $
+        -- [the row; the token; …; …; …; …; …; _12 at 7; …; _10 at 11; …; _9 at 13; …; _3 at 25; …; _2 at 27; …; _0 at 31; …]
+        forget ! 11 refl $ forget ! 13 refl $ forget ! 25 refl $ forget ! 27 refl $
+        keep ! (0 ∷ 1 ∷ 7 ∷ 8 ∷ 9 ∷ 10 ∷ 11 ∷ 12 ∷ 13 ∷ 14 ∷ 15 ∷ 16 ∷ 17 ∷ 18 ∷ 19 ∷ 20 ∷ 21 ∷ 22 ∷ 23 ∷ 24 ∷ 25 ∷ 26 ∷ 27 ∷ 28 ∷ 29 ∷ 30 ∷ 31 ∷ 32 ∷ []) $
         by ! (mid (zs .0) r (board-good r w is) l (e .1) (e .0))))))))))
 
   -- the parameters are laid into their locals
@@ -285,9 +289,9 @@ module _ {M : Type 1} (𝓤 : URA M) (H : Heap 𝓤) (A : Atoms 𝓤) (W : Given
       → ent 𝓤 (onEntry 𝓤 H A turn.signature (κ, tt) (q, tt) a at) (WpFn 𝓤 H C Λ code.function (v₁ ∷ openingVal s ∷ []) Post)
   walk C Λ fm known₁ known₂ known₃ room gs =
       qed W ((‵ (flft κ q) ⊛ ‵ ftrue) ∷ ‵ (owns (MutSlice (named 0) κ Hd ∷ Op ∷ []) a at) ∷ []) ∵ enter ! C Λ code.function (v₁ ∷ openingVal s ∷ []) _ $
-      allocated 𝓤 H A W ((‵ (flft κ q) ⊛ ‵ ftrue) ∷ ‵ (owns (MutSlice (named 0) κ Hd ∷ Op ∷ []) a at) ∷ []) _ (λ l₀ l₁ l₂ l₃ l₄ l₅ l₆ l₇ l₈ l₉ l₁₀ l₁₁. params1 ! $
-      pass1 ! (init ! 20 refl (tt, (tt, (record { fits = room .0 }, tt)))) $ pass1 ! (init ! 18 refl (LL.lawful O.the-type O′.the-laws 𝓤 H A W .typed s _ gs .0)) $ pass0 ! $
-      by ! (starts C Λ fm known₁ known₂ known₃ room gs l₀ l₁ l₂ l₃ l₄ l₅ l₆ l₇ l₈ l₉ l₁₀ l₁₁))
+      allocated 𝓤 H A W ((‵ (flft κ q) ⊛ ‵ ftrue) ∷ ‵ (owns (MutSlice (named 0) κ Hd ∷ Op ∷ []) a at) ∷ []) _ (λ l₀ l₁ l₂ l₃ l₄ l₅ l₆ l₇ l₈ l₉ l₁₀ l₁₁ l₁₂. params1 ! $
+      pass1 ! (init ! 22 refl (tt, (tt, (record { fits = room .0 }, tt)))) $ pass1 ! (init ! 20 refl (LL.lawful O.the-type O′.the-laws 𝓤 H A W .typed s _ gs .0)) $ pass0 ! $
+      by ! (starts C Λ fm known₁ known₂ known₃ room gs l₀ l₁ l₂ l₃ l₄ l₅ l₆ l₇ l₈ l₉ l₁₀ l₁₁ l₁₂))
 
 module _ {M : Type 1} (𝓤 : URA M) (H : Heap 𝓤) (A : Atoms 𝓤) (W : Given 𝓤 H A) (mem : Memory → SProp 𝓤) (run : Routine → Fun 𝓤) (𝓣 : Tables 𝓤 H) (known₁ : Triple 𝓤 (𝓣 .C #lfj_dispatch·sweep) (Sweep′ 𝓤 H A mem run)) (known₂ : Triple 𝓤 (𝓣 .C #dispatch_steps·second) (Second′ 𝓤 H A mem run)) (known₃ : Triple 𝓤 (𝓣 .C #dispatcher·word-of) (Word′ 𝓤 H A mem run)) where
   turn-walks : Walks 𝓤 H A turn.ended stayed (WpFn 𝓤 H (𝓣 .C) (𝓣 .Λ) code.function) (turn.clauses 𝓤 H A mem run)

@@ -216,7 +216,7 @@ macro_rules! sample {
 }
 
 pub(super) fn samples() -> Lines {
-    let mut lines = Lines::new("samples", "The twelve samples: what the sheet prints for each.");
+    let mut lines = Lines::new("samples", "The fourteen samples: what the sheet prints for each.");
     for (name, text, record) in [
         sample!("half-motif"),
         sample!("document-003"),
@@ -225,6 +225,8 @@ pub(super) fn samples() -> Lines {
         sample!("ground-facts"),
         sample!("ground-on-the-way"),
         sample!("durations"),
+        sample!("side-by-side"),
+        sample!("more-heads"),
         sample!("three-stages"),
         sample!("longest-form"),
         sample!("long-mel"),
