@@ -1,26 +1,24 @@
 -- k × T is at most W + (k − 1) × C.
-use mathlib.Core.Path.{_≡_, refl, sym, ap, ap₂, _∙_, subst}
-use mathlib.Core.Bool.{Bool, true, false, not, _&&_, _||_, cond, true≢false, false≢true}
-use mathlib.Core.List.{List, [], _∷_, map}
+use mathlib.Core.Path.{_≡_, refl, sym, ap, _∙_, subst}
+use mathlib.Core.Bool.{Bool, true, false, not, _||_, cond, true≢false, false≢true}
 use mathlib.Core.Logic.{_⊎_, inl, inr, ⊎-elim}
 use Prim.Native.Nat.{ℕ, zero, suc, _+_, _*_, _-_, _≤_, _<_}
 use native.Mathlib.Omega.{arith}
 use native.Mathlib.Nat.{mul-le-mul-left, eq-or-lt-of-le}
-use lib.Dec.{eqb, leb}
 use lib.ListN.{length, replicate, length-replicate}
-use borrow.Author.Tests.{leb-true, leb-false, le-leb, not-false}
-use Rattle.schedule.specs.Range.{Goals, Order, each, total, top}
+use borrow.Author.Tests.{leb-true, leb-false, not-false}
+use Rattle.schedule.specs.Range.{Goals, Order, total}
 use Rattle.schedule.specs.Heaviest.{heaviest}
 use Rattle.dispatch_rule.specs.declared.Head.{Head}
 use Rattle.dispatch_rule.specs.Rule.{State, idle, start, count, on, ready, busy, ends, assigned, tick}
-use Rattle.dispatch_rule.specs.Validity.{In, Busy, Valid}
+use Rattle.dispatch_rule.specs.Validity.{In, Valid}
 use Rattle.dispatch_rule.specs.Run.{working, after, Done, LastWorking}
-use Rattle.logic.proofs.Bools.{test, not-true, or-false}
-use Rattle.schedule.proofs.Range.{strong, each-at, each-not, total-add, total-eq, total-none, top-le, le-top, top-mono, top-falls}
+use Rattle.logic.proofs.Bools.{test, or-false}
+use Rattle.schedule.proofs.Range.{strong, each-at, each-not, total-add, total-eq, top-le, top-mono, top-falls}
 use Rattle.schedule.proofs.Heaviest.{ending, prior, ending-step, heaviest-top, prior-is, prior-not, ending-mono, heaviest-mono}
 use Rattle.dispatch_rule.proofs.Taking.{leftOn, left-off, count-there}
 use Rattle.dispatch_rule.proofs.Working.{busy-total, all-or-idle}
-use Rattle.dispatch_rule.proofs.Ticks.{rem, Open, done-or, tk, assigned-once, valid-tick, long-tick, rem-tick, spare, works, done-works}
+use Rattle.dispatch_rule.proofs.Ticks.{rem, Open, done-or, tk, valid-tick, long-tick, rem-tick, spare, works, done-works}
 
 module _ (R : ℕ → ℕ → Bool) (n : ℕ) (t : ℕ → ℕ) where
   -- no chain of ended goals has weight

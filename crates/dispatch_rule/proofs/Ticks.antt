@@ -1,21 +1,21 @@
 -- A tick as a whole: it keeps validity, until all goals have ended some head works, and then nothing changes.
 use mathlib.Core.Path.{_≡_, refl, sym, ap, ap₂, _∙_, subst, fun-ext}
-use mathlib.Core.Bool.{Bool, true, false, not, _&&_, _||_, cond, true≢false, false≢true, or-true, or-false}
+use mathlib.Core.Bool.{Bool, true, false, not, _&&_, _||_, cond, true≢false, or-true, or-false}
 use mathlib.Core.List.{List, [], _∷_, map}
 use mathlib.Core.Logic.{_⊎_, inl, inr, ⊎-elim}
-use Prim.Native.Nat.{ℕ, zero, suc, _+_, _*_, _-_, _≤_, _<_}
+use Prim.Native.Nat.{ℕ, _+_, _-_, _≤_}
 use native.Mathlib.Omega.{arith}
 use lib.Dec.{eqb, leb}
 use lib.ListN.{length, length-map, replicate}
-use borrow.Author.Tests.{eq-eqb, ne-eqb, eqb-true, eqb-false, leb-true, leb-false, le-leb, lt-leb, not-false}
-use Rattle.schedule.specs.Range.{Goals, Order, each, lowest, total}
+use borrow.Author.Tests.{ne-eqb, eqb-true, eqb-false, leb-true, leb-false, lt-leb, not-false}
+use Rattle.schedule.specs.Range.{Goals, Order, each, lowest}
 use Rattle.dispatch_rule.specs.declared.Head.{Head}
-use Rattle.dispatch_rule.specs.Rule.{State, idle, count, on, ready, worked, ends, busy, assigned, tick, taken}
+use Rattle.dispatch_rule.specs.Rule.{State, idle, count, on, ready, worked, ends, busy, assigned, tick}
 use Rattle.dispatch_rule.specs.Validity.{In, Busy, Valid}
 use Rattle.dispatch_rule.specs.Run.{working, Done}
-use Rattle.logic.proofs.Bools.{test, by-test, and-true, not-true, or-true as or-cases, or-false as or-neither}
+use Rattle.logic.proofs.Bools.{test, by-test, not-true, or-true as or-cases}
 use Rattle.schedule.proofs.Range.{each-at, each-all, each-not, Lowest, Nothing, lowest-is}
-use Rattle.dispatch_rule.proofs.Taking.{leftOn, count-here, count-there, left-off, same-or, Taken, taken-is}
+use Rattle.dispatch_rule.proofs.Taking.{leftOn, count-here, count-there, same-or, Taken, taken-is}
 use Rattle.dispatch_rule.proofs.Working.{Sound, count-worked, ends-in, ends-not, left-falls, all-or-idle}
 
 -- a goal on the row is on a head

@@ -1,17 +1,17 @@
 -- The test for refusal 20 passes exactly the valid states.
-use mathlib.Core.Path.{_≡_, refl, sym, ap, ap₂, _∙_, subst}
-use mathlib.Core.Bool.{Bool, true, false, not, _&&_, _||_, cond, true≢false, false≢true, or-true}
+use mathlib.Core.Path.{_≡_, refl, sym, ap, ap₂, _∙_}
+use mathlib.Core.Bool.{Bool, true, not, _&&_, _||_, or-true}
 use mathlib.Core.List.{List, [], _∷_}
 use mathlib.Core.Logic.{_⊎_, inl, inr, ⊎-elim, _↔_}
-use Prim.Native.Nat.{ℕ, zero, suc, _+_, _≤_, _<_}
+use Prim.Native.Nat.{ℕ, _≤_, _<_}
 use native.Mathlib.Omega.{arith}
 use lib.Dec.{eqb, leb}
-use borrow.Author.Tests.{eq-eqb, ne-eqb, eqb-true, eqb-false, leb-true, leb-false, le-leb, lt-leb}
+use borrow.Author.Tests.{eqb-true, eqb-false, leb-true, leb-false, le-leb}
 use Rattle.schedule.specs.Range.{Goals, each}
 use Rattle.dispatch_rule.specs.declared.Head.{Head}
 use Rattle.dispatch_rule.specs.Rule.{State, idle, count, ready}
 use Rattle.dispatch_rule.specs.Validity.{In, Busy, Valid, allHeads, fineHead, isValid}
-use Rattle.logic.proofs.Bools.{test, by-test, and-true, not-true, or-true as or-cases}
+use Rattle.logic.proofs.Bools.{test, by-test, and-true, not-true}
 use Rattle.schedule.proofs.Range.{each-at, each-all}
 use Rattle.dispatch_rule.proofs.Ticks.{count-in}
 

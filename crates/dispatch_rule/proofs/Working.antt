@@ -1,20 +1,20 @@
 -- The second half of a tick: each busy head works.
 use mathlib.Core.Path.{_≡_, refl, sym, ap, ap₂, _∙_, subst}
-use mathlib.Core.Bool.{Bool, true, false, not, _&&_, _||_, cond, true≢false, or-false}
+use mathlib.Core.Bool.{true, false, _&&_, cond, true≢false, or-false}
 use mathlib.Core.List.{List, [], _∷_, map}
 use mathlib.Core.Logic.{_⊎_, inl, inr, ⊎-elim}
-use Prim.Native.Nat.{ℕ, zero, suc, _+_, _-_, _≤_, _<_}
+use Prim.Native.Nat.{ℕ, _+_, _-_, _≤_}
 use native.Mathlib.Omega.{arith}
 use lib.Dec.{eqb, leb}
 use lib.ListN.{length}
-use borrow.Author.Tests.{eq-eqb, ne-eqb, eqb-true, eqb-false, le-leb, leb-true}
+use borrow.Author.Tests.{eq-eqb, ne-eqb, eqb-true, le-leb, leb-true}
 use Rattle.schedule.specs.Range.{Goals, total}
 use Rattle.dispatch_rule.specs.declared.Head.{Head}
 use Rattle.dispatch_rule.specs.Rule.{idle, count, worked, ends, busy}
 use Rattle.dispatch_rule.specs.Validity.{In}
 use Rattle.logic.proofs.Bools.{test, by-test, and-true, or-true as or-cases}
-use Rattle.schedule.proofs.Range.{same, other, total-add, total-one, total-none}
-use Rattle.dispatch_rule.proofs.Taking.{leftOn, count-here, count-there, left-here, left-there, same-or, left-off}
+use Rattle.schedule.proofs.Range.{other, total-add, total-one, total-none}
+use Rattle.dispatch_rule.proofs.Taking.{leftOn, count-here, count-there, left-here, left-there, same-or}
 
 -- A head that is idle, or has a goal and ticks left.
 abbrev pub Sound : Head → Type 0

@@ -1,13 +1,13 @@
 -- The goals that a head may have, as a set and by the rule.
 use mathlib.Core.Path.{_≡_, refl, sym, ap, ap₂, _∙_}
 use mathlib.Core.Bool.{Bool, true, false, not, _&&_, _||_, cond, true≢false, and-true as and-yes, and-false as and-no}
-use mathlib.Core.Logic.{_⊎_, inl, inr, ⊎-elim}
-use Prim.Native.Nat.{ℕ, zero, suc, _-_, _≤_, _<_}
+use mathlib.Core.Logic.{_⊎_, ⊎-elim}
+use Prim.Native.Nat.{ℕ, zero, suc, _-_, _≤_}
 use native.Mathlib.Omega.{arith}
-use lib.Dec.{eqb, ltb, leb}
+use lib.Dec.{eqb, leb}
 use borrow.Author.Tests.{eq-eqb, ne-eqb, eqb-true, lt-ltb, le-leb}
-use Rattle.logic.proofs.Bools.{iff, is-false, and-l, and-r, and-i, not-true}
-use Rattle.sets.specs.Sets.{goalLimit, has, without, single}
+use Rattle.logic.proofs.Bools.{iff, is-false, and-l}
+use Rattle.sets.specs.Sets.{goalLimit, without, single}
 use Rattle.sets.proofs.Membership.{has-single}
 use Rattle.graph.specs.Graph.{hasGoal}
 use Rattle.graph.proofs.Goals.{goal-none, goal-without}

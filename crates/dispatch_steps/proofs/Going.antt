@@ -3,7 +3,7 @@ use mathlib.Core.Path.{_≡_, refl, sym, ap, ap₂, _∙_, fun-ext}
 use mathlib.Core.Bool.{Bool, true, false, _&&_, _||_, cond, or-false, or-assoc, and-true as and-yes, and-false as and-no}
 use mathlib.Core.List.{List, [], _∷_, map}
 use mathlib.Core.Logic.{_⊎_, inl, inr, ⊎-elim}
-use Prim.Native.Nat.{ℕ, zero, suc, _-_, _≤_}
+use Prim.Native.Nat.{ℕ, _-_, _≤_}
 use native.Mathlib.Omega.{arith}
 use lib.Dec.{eqb, leb}
 use Rattle.logic.proofs.Bools.{test}
@@ -12,13 +12,13 @@ use Rattle.graph.specs.Graph.{hasGoal}
 use Rattle.graph.proofs.Goals.{goal-union}
 use Rattle.schedule.specs.Range.{Goals, Order}
 use Rattle.dispatch_rule.specs.declared.Head.{Head}
-use Rattle.dispatch_rule.specs.Rule.{State, on, offer, taken, worked, ends, assigned, tick}
+use Rattle.dispatch_rule.specs.Rule.{on, offer, taken, worked, ends, assigned, tick}
 use Rattle.dispatch_rule.specs.Validity.{In, Valid}
 use Rattle.dispatch_rule.proofs.Ticks.{tk}
 use Rattle.dispatch_steps.specs.declared.Board.{Board}
 use Rattle.dispatch_steps.specs.declared.Plan.{Plan}
 use Rattle.dispatch_steps.specs.declared.Stepped.{Stepped}
-use Rattle.dispatch_steps.specs.Steps.{stateOf, going, alone, finishing, goOf, stepOf, sweepHeads, sweepBoard}
+use Rattle.dispatch_steps.specs.Steps.{stateOf, going, alone, finishing, goOf, sweepHeads, sweepBoard}
 use Rattle.dispatch_steps.proofs.Masks.{step-goes}
 use Rattle.dispatch_steps.proofs.Free.{has-alone, Free, Planned, free-less, taking-is}
 

@@ -2,14 +2,14 @@
 use mathlib.Core.Path.{_≡_, refl, sym, ap, ap₂, _∙_}
 use mathlib.Core.Bool.{Bool, true, false, not, _&&_, _||_, cond, true≢false, or-true, or-false as or-none, or-assoc}
 use mathlib.Core.List.{List, [], _∷_}
-use mathlib.Core.Logic.{_⊎_, inl, inr, ⊎-elim}
-use Prim.Native.Nat.{ℕ, zero, suc, _+_, _-_, _≤_, _<_}
+use mathlib.Core.Logic.{_⊎_, ⊎-elim}
+use Prim.Native.Nat.{ℕ, _-_, _≤_}
 use native.Mathlib.Omega.{arith}
 use lib.Dec.{eqb, leb}
 use lib.ListN.{length, replicate}
 use borrow.Author.Tests.{eq-eqb, eqb-true, eqb-false, leb-true, le-leb}
 use Rattle.logic.proofs.Bools.{test, by-test, and-true, not-true, or-true as or-cases}
-use Rattle.sets.specs.Sets.{goalLimit, without}
+use Rattle.sets.specs.Sets.{goalLimit}
 use Rattle.graph.specs.Graph.{hasGoal}
 use Rattle.schedule.specs.Range.{Goals}
 use Rattle.dispatch_rule.specs.declared.Head.{Head}
@@ -19,7 +19,7 @@ use Rattle.dispatch_rule.proofs.Taking.{count-here, count-there, same-or}
 use Rattle.dispatch_steps.specs.declared.Board.{Board}
 use Rattle.dispatch_steps.specs.declared.Plan.{Plan}
 use Rattle.dispatch_steps.specs.declared.Stepped.{Stepped}
-use Rattle.dispatch_steps.specs.Steps.{looking, going, resting, idling, alone, ofGoal, isFine, lookOf, restOf, stepOf, sweepHeads, sweepBoard}
+use Rattle.dispatch_steps.specs.Steps.{looking, resting, idling, ofGoal, isFine, lookOf, stepOf, sweepHeads, sweepBoard}
 use Rattle.dispatch_steps.proofs.Masks.{step-looks, step-rests, rest-idle, rest-same}
 use Rattle.dispatch_steps.proofs.Free.{can, Free, Planned, free-less}
 

@@ -1,6 +1,6 @@
 -- The row gone over twice: the tick of the rule where the state is valid, and otherwise nothing.
-use mathlib.Core.Path.{_≡_, refl, sym, ap, ap₂, _∙_, subst}
-use mathlib.Core.Bool.{Bool, true, false, not, _&&_, _||_, cond, true≢false, false≢true}
+use mathlib.Core.Path.{_≡_, sym, ap, ap₂, _∙_, subst}
+use mathlib.Core.Bool.{Bool, true, false, not, _&&_, _||_, false≢true}
 use mathlib.Core.List.{List}
 use mathlib.Core.Logic.{_⊎_, ⊎-elim}
 use Prim.Native.Nat.{ℕ, zero, suc, _^_, _≤_, _<_}
@@ -15,8 +15,8 @@ use Rattle.graph.specs.Graph.{hasGoal}
 use Rattle.schedule.specs.Range.{Goals, Order, each}
 use Rattle.schedule.proofs.Range.{each-all}
 use Rattle.dispatch_rule.specs.declared.Head.{Head}
-use Rattle.dispatch_rule.specs.Rule.{State, idle, count, on, ready, tick}
-use Rattle.dispatch_rule.specs.Validity.{Valid, allHeads, fineHead, isValid}
+use Rattle.dispatch_rule.specs.Rule.{idle, count, on, ready, tick}
+use Rattle.dispatch_rule.specs.Validity.{allHeads, fineHead, isValid}
 use Rattle.dispatch_rule.proofs.Validity.{valid-is}
 use Rattle.dispatch_steps.specs.declared.Board.{Board}
 use Rattle.dispatch_steps.specs.declared.Plan.{Plan}
@@ -25,7 +25,7 @@ use Rattle.dispatch_steps.specs.Steps.{stateOf, looking, going, resting,
 use Rattle.dispatch_steps.proofs.Masks.{second-goes, second-stays}
 use Rattle.dispatch_steps.proofs.Free.{Free, Planned}
 use Rattle.dispatch_steps.proofs.Going.{go-ticks}
-use Rattle.dispatch_steps.proofs.Looking.{rest-sweep, idle-sweep, lookAll, look-sweep, Single, look-to, look-from, look-free}
+use Rattle.dispatch_steps.proofs.Looking.{rest-sweep, idle-sweep, lookAll, look-sweep, look-to, look-from, look-free}
 
 -- a set of 32 bits has goals up to 32 alone
 pub has-wide : (m g : ℕ) → m < 2 ^ goalLimit → hasGoal m g ≡ true → Goals goalLimit g
@@ -68,9 +68,6 @@ module _ (o : Opening) (hs : List Head) where
 
       abbrev fine-heads : Bool
       fine-heads = allHeads (fineHead R n t (hasGoal m)) hs
-
-      abbrev single-heads : Bool
-      single-heads = each (λ g. leb (count hs g) 1) n
 
       abbrev ended-fine : Bool
       ended-fine = each (λ g. not (hasGoal m g) || (leb g n && ready R n (hasGoal m) g)) goalLimit

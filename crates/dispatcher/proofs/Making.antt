@@ -1,10 +1,10 @@
 -- The functions that make what a start and a tick begin with, by their definitions.
 use mathlib.Core.Path.{_≡_, refl, sym, ap, ap₂, _∙_}
-use mathlib.Core.Bool.{Bool, true, false, _&&_, cond}
+use mathlib.Core.Bool.{Bool, false, _&&_, cond}
 use mathlib.Core.List.{List}
-use Prim.Native.Nat.{ℕ, _≤_, _<_}
+use Prim.Native.Nat.{ℕ}
 use native.Mathlib.Omega.{arith}
-use lib.Dec.{eqb, leb}
+use lib.Dec.{leb}
 use borrow.Author.Tests.{eq-eqb, ne-eqb, le-leb, lt-leb}
 use Rattle.sets.specs.Sets.{goalLimit, without, below, subset}
 use Rattle.record_fields.specs.Fields.{goalCount}
@@ -20,7 +20,7 @@ use Rattle.dispatch_steps.specs.declared.Board.{Board}
 use Rattle.dispatch_steps.specs.declared.Opening.{Opening}
 use Rattle.dispatch_steps.specs.Steps.{looking, resting, idling}
 use Rattle.dispatcher.specs.Ticks.{headLimit, few}
-use Rattle.dispatcher.specs.Openings.{leftOf, waitingOf, badRow, bare, shut, startOpen, tickOpen, opened, startOpening, tickOpening, boardWord}
+use Rattle.dispatcher.specs.Openings.{leftOf, waitingOf, badRow, bare, shut, startOpen, tickOpen, opened, boardWord}
 
 pub few-none : (k : ℕ) → k ≡ 0 → false ≡ few k
 few-none k e = sym (ap (λ x. x && leb k headLimit) (lt-leb 1 k (omega arith)))

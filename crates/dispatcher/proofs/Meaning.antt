@@ -5,16 +5,16 @@ use mathlib.Core.List.{List}
 use mathlib.Core.Logic.{_⊎_, ⊎-elim}
 use Prim.Native.Nat.{ℕ, zero, suc, _^_, _≤_, _<_}
 use native.Mathlib.Omega.{arith}
-use lib.Dec.{eqb, ltb, leb}
-use lib.ListN.{length, getD}
+use lib.Dec.{leb}
+use lib.ListN.{length}
 use borrow.Author.Tests.{lt-ltb, ltb-true, le-leb, leb-true}
-use Rattle.logic.specs.Quantifiers.{every, someBelow}
-use Rattle.logic.proofs.Bools.{test, iff, is-false, clash, and-l, and-r, and-i, or-r, not-i, not-true, or-elim, implies-in, implies-out}
+use Rattle.logic.specs.Quantifiers.{someBelow}
+use Rattle.logic.proofs.Bools.{test, iff, is-false, clash, and-l, and-r, and-i, not-i, not-true, implies-in, implies-out}
 use Rattle.logic.proofs.Quantifiers.{below-in, below-out}
 use Rattle.logic.proofs.Table.{table-at}
-use Rattle.sets.specs.Sets.{goalLimit, has, without, below, subset, setOf}
-use Rattle.sets.proofs.Membership.{has-empty, has-without, has-below, subset-has, has-subset, member-below, below-of}
-use Rattle.graph.specs.Graph.{hasGoal, goalsOf}
+use Rattle.sets.specs.Sets.{goalLimit, has, without, below, subset}
+use Rattle.sets.proofs.Membership.{has-without, has-below, subset-has, has-subset, below-of}
+use Rattle.graph.specs.Graph.{hasGoal}
 use Rattle.graph.proofs.Goals.{goal-none}
 use Rattle.graph.proofs.Rows.{goals-ext, goals-has}
 use Rattle.record_fields.specs.Facts.{ticksAt}
@@ -33,7 +33,7 @@ use Rattle.order.specs.Order.{waits, Before, before}
 use Rattle.order.specs.Arrays.{waitingOn}
 use Rattle.order.proofs.Theorems.{before-is, before-goals, before-order}
 use Rattle.lfj_words.specs.Words.{refusalWord, tickWord}
-use Rattle.schedule.specs.Range.{Goals, Order, each}
+use Rattle.schedule.specs.Range.{Goals, each}
 use Rattle.schedule.proofs.Range.{each-at, each-all}
 use Rattle.dispatch_rule.specs.declared.Head.{Head}
 use Rattle.dispatch_rule.specs.Rule.{State, count, start, ready, tick}
@@ -42,7 +42,7 @@ use Rattle.dispatch_rule.proofs.Ticks.{valid-tick}
 use Rattle.dispatch_rule.proofs.Validity.{valid-is}
 use Rattle.dispatch_steps.specs.declared.Board.{Board}
 use Rattle.dispatch_steps.specs.declared.Opening.{Opening}
-use Rattle.dispatch_steps.specs.Steps.{stateOf, looking, going, resting, idling, ofGoal, turnHeads, turnBoard}
+use Rattle.dispatch_steps.specs.Steps.{stateOf, looking, resting, idling, turnHeads, turnBoard}
 use Rattle.dispatch_steps.proofs.Free.{Free, Planned}
 use Rattle.dispatch_steps.proofs.Turning.{has-wide, turn-rests, turn-idles, turn-accepts, turn-refuses}
 use Rattle.dispatcher.specs.Ticks.{few, startOutcome, acceptable, tickOutcome, setOfState, rowAfter, startAnswer, startRow, tickAnswer, tickRow}

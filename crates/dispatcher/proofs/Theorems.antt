@@ -1,23 +1,20 @@
 -- What request 4 says of starts, ticks and runs, on the operations. For any well-formed record: a form is not asked for.
 use mathlib.Core.Path.{_≡_, refl, sym, ap, ap₂, _∙_, subst, fun-ext}
-use mathlib.Core.Bool.{Bool, true, false, _&&_, cond}
+use mathlib.Core.Bool.{Bool, true, false, _&&_}
 use mathlib.Core.Logic.{_⊎_, inl, inr, _↔_}
 use mathlib.Core.List.{List}
-use Prim.Native.Nat.{ℕ, zero, suc, _+_, _-_, _*_, _/_, _<_, _≤_, _^_}
+use Prim.Native.Nat.{ℕ, zero, suc, _+_, _-_, _*_, _<_, _≤_, _^_}
 use native.Mathlib.Omega.{arith}
 use lib.Dec.{leb}
 use lib.ListN.{length, replicate, length-replicate}
 use borrow.Author.Tests.{le-leb, leb-true}
-use Rattle.logic.proofs.Bools.{test, iff, and-true, clash}
+use Rattle.logic.proofs.Bools.{iff, and-true, clash}
 use Rattle.sets.specs.Sets.{goalLimit}
 use Rattle.graph.specs.Graph.{hasGoal, goalsOf}
 use Rattle.graph.proofs.Goals.{goal-none}
 use Rattle.graph.proofs.Rows.{goals-ext, goals-has, goals-lt}
 use Rattle.record_fields.specs.Facts.{ticksAt}
 use Rattle.record_fields.specs.Fields.{goalCount}
-use Rattle.record_rules.specs.declared.Refusal.{Refusal}
-use Rattle.record_rules.specs.declared.Reading.the-variants.{Refused}
-use Rattle.record_rules.specs.Reading.{reading}
 use Rattle.record_rules.specs.Outcome.{Outcome, refused, accepted, readThen, onlyIf, values, Accepted}
 use Rattle.record_rules.proofs.Outcomes.{All, all-refused, all-accepted, all-read, all-only, all-next, read-fine, number-zero, one-value}
 use Rattle.record.specs.Limits.{Bytes, OfReading}
@@ -28,7 +25,7 @@ use Rattle.order.specs.Order.{before}
 use Rattle.order.proofs.Theorems.{before-order}
 use Rattle.lfj_words.specs.Words.{tickWord}
 use Rattle.lfj_words.proofs.Encoding.{number-says}
-use Rattle.schedule.specs.Range.{Goals, total}
+use Rattle.schedule.specs.Range.{Goals}
 use Rattle.schedule.specs.Heaviest.{IsHeaviest}
 use Rattle.schedule.proofs.Heaviest.{heaviest-is}
 use Rattle.dispatch_rule.specs.declared.Head.{Head}
@@ -41,7 +38,7 @@ use Rattle.dispatch_rule.proofs.Validity.{valid-is}
 use Rattle.dispatch_steps.specs.Steps.{stateOf}
 use Rattle.dispatch_steps.proofs.Turning.{has-wide}
 use Rattle.dispatcher.specs.Ticks.{headLimit, few, startOutcome, acceptable, tickOutcome, setOfState, rowAfter, startAnswer, startRow, tickAnswer, tickRow}
-use Rattle.dispatcher.specs.Runs.{Left, run, atWork, runWork, AllEnded, LastTick, allTicks, heaviestChain, WordSays}
+use Rattle.dispatcher.specs.Runs.{run, atWork, runWork, AllEnded, LastTick, allTicks, heaviestChain, WordSays}
 use Rattle.dispatcher.proofs.Meaning.{ticks-from}
 
 -- 1 to 8 heads

@@ -10,7 +10,7 @@ use graph::Graph;
 use record_rules::Reading;
 use record_rules::Refusal;
 ghost use mathlib.Core.Path.{_≡_};
-ghost use mathlib.Core.Bool.{_&&_, cond};
+ghost use mathlib.Core.Bool.{cond};
 ghost use Rattle.record.specs.WellFormed.{WellFormed};
 ghost use Rattle.dispatch_steps.specs.Steps as S;
 ghost use Rattle.dispatcher.specs.Ticks as T;

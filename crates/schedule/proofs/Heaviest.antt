@@ -1,5 +1,5 @@
 -- The heaviest chain: the row computes it, and more weight never makes it lighter.
-use mathlib.Core.Path.{_≡_, refl, sym, ap, ap₂, _∙_, subst}
+use mathlib.Core.Path.{_≡_, refl, ap, ap₂}
 use mathlib.Core.Bool.{Bool, true, false, cond}
 use mathlib.Core.List.{List, [], _∷_}
 use mathlib.Core.Logic.{_⊎_, inl, inr, ⊎-elim}
@@ -8,8 +8,8 @@ use native.Mathlib.Decide.{decLe}
 use native.Mathlib.Omega.{arith}
 use lib.ListN.{length}
 use Rattle.schedule.specs.Range.{Goals, Order, top}
-use Rattle.schedule.specs.Heaviest.{IsChain, weight, IsHeaviest, bestBefore, row, largest, heaviest}
-use Rattle.logic.proofs.Bools.{test, by-test}
+use Rattle.schedule.specs.Heaviest.{IsChain, weight, IsHeaviest, bestBefore, row, heaviest}
+use Rattle.logic.proofs.Bools.{test}
 use Rattle.schedule.proofs.Range.{strong, le-top, top-mono}
 
 -- ---- the row, as a function: the heaviest chain that ends with goal g

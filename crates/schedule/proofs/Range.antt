@@ -1,8 +1,8 @@
 -- Tests, sums and maxima over the goals 1 to n: what they say.
-use mathlib.Core.Path.{_≡_, refl, sym, ap, ap₂, _∙_, subst}
-use mathlib.Core.Bool.{Bool, true, false, _&&_, cond, false≢true, true≢false}
+use mathlib.Core.Path.{_≡_, refl, sym, ap, _∙_, subst}
+use mathlib.Core.Bool.{Bool, true, false, cond, true≢false}
 use mathlib.Core.Logic.{_⊎_, inl, inr, ⊎-elim}
-use Prim.Native.Nat.{ℕ, zero, suc, _+_, _-_, _≤_, _<_, max}
+use Prim.Native.Nat.{ℕ, zero, suc, _+_, _-_, _≤_, _<_}
 use native.Mathlib.Nat.{eq-or-lt-of-le}
 use native.Mathlib.Decide.{decLt}
 use native.Mathlib.Omega.{arith}
@@ -11,7 +11,7 @@ use borrow.Author.Tests.{eq-eqb, ne-eqb, eqb-true, eqb-false}
 use Rattle.schedule.specs.Range.{Goals, each, lowest, total, top}
 use Rattle.logic.specs.Quantifiers.{every}
 use Rattle.logic.proofs.Quantifiers.{every-out, every-in}
-use Rattle.logic.proofs.Bools.{test, by-test, and-true, and-false}
+use Rattle.logic.proofs.Bools.{by-test, and-false}
 
 -- ---- induction from below
 pub strong : (P : ℕ → Type 0) → ((m : ℕ) → ((i : ℕ) → i < m → P i) → P m) → (m : ℕ) → P m

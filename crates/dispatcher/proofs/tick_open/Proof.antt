@@ -1,9 +1,8 @@
-use native.Mathlib.Omega.{arith}
-use mathlib.Core.Path.{_≡_, refl, sym, ap, _∙_}
+use mathlib.Core.Path.{refl, ap, _∙_}
 use Rattle.sets.specs.Sets.{below}
 use Rattle.clause.proofs.Decoded.{clause-count, clause-few}
 use Rattle.order.proofs.Decoded.{clause-waiting}
-use Rattle.dispatcher.proofs.Making.{Made, made-is, ticks-of}
+use Rattle.dispatcher.proofs.Making.{made-is, ticks-of}
 use borrow.Author.Needs.{needs}
 use Rattle.dispatcher.proofs.tick_open.Statement.{statement}
 use Rattle.dispatcher.proofs.tick_open.Tie as tie
