@@ -7,7 +7,7 @@ use native.Mathlib.Omega.{arith}
 use lib.Dec.{eqb, leb}
 use borrow.Author.Tests.{eq-eqb, ne-eqb, eqb-true, lt-ltb, le-leb}
 use Rattle.logic.proofs.Bools.{iff, is-false, and-l}
-use Rattle.sets.specs.Sets.{goalLimit, without, single}
+use Rattle.sets.specs.Sets.{without, single}
 use Rattle.sets.proofs.Membership.{has-single}
 use Rattle.graph.specs.Graph.{hasGoal}
 use Rattle.graph.proofs.Goals.{goal-none, goal-without}
@@ -20,11 +20,11 @@ use Rattle.dispatch_steps.specs.declared.Plan.{Plan}
 use Rattle.dispatch_steps.specs.Steps.{alone, ofGoal, taking}
 
 -- the set of one goal has it and nothing else
-pub has-alone : (x g : ℕ) → x ≤ goalLimit → hasGoal (alone x) g ≡ (eqb g x && leb 1 g)
-has-alone x zero u = sym (and-no (eqb 0 x))
-has-alone zero (suc j) u = goal-none (suc j) ∙ sym (ap (λ b. b && leb 1 (suc j)) (ne-eqb (suc j) 0 (λ e. omega arith)))
-has-alone (suc i) (suc j) u =
-    ap (λ b. hasGoal (cond b (single i) 0) (suc j)) (lt-ltb i goalLimit (omega arith))
+pub has-alone : (w x g : ℕ) → x ≤ w → hasGoal (alone w x) g ≡ (eqb g x && leb 1 g)
+has-alone w x zero u = sym (and-no (eqb 0 x))
+has-alone w zero (suc j) u = goal-none (suc j) ∙ sym (ap (λ b. b && leb 1 (suc j)) (ne-eqb (suc j) 0 (λ e. omega arith)))
+has-alone w (suc i) (suc j) u =
+    ap (λ b. hasGoal (cond b (single i) 0) (suc j)) (lt-ltb i w (omega arith))
     ∙ has-single i j
     ∙ iff (eqb i j) (eqb (suc j) (suc i)) (λ e. eq-eqb (suc j) (suc i) (ap suc (sym (eqb-true i j e)))) (λ e. eq-eqb i j (omega (arith, eqb-true (suc j) (suc i) e)))
     ∙ sym (ap (λ b. eqb (suc j) (suc i) && b) (le-leb 1 (suc j) (omega arith)) ∙ and-yes (eqb (suc j) (suc i)))
@@ -38,7 +38,7 @@ shift false false true false = refl
 shift false false false true = refl
 shift false false false false = refl
 
-module _ (R : ℕ → ℕ → Bool) (n : ℕ) (t : ℕ → ℕ) (E : ℕ → Bool) (few : n ≤ goalLimit) where
+module _ {w : ℕ} (R : ℕ → ℕ → Bool) (n : ℕ) (t : ℕ → ℕ) (E : ℕ → Bool) (few : n ≤ w) where
   -- the goal can be taken, where B has the goals on a head
   abbrev pub can : (ℕ → Bool) → ℕ → Bool
   can B g = not (E g) && not (B g) && ready R n E g
@@ -52,26 +52,26 @@ module _ (R : ℕ → ℕ → Bool) (n : ℕ) (t : ℕ → ℕ) (E : ℕ → Boo
   abbrev pub Planned : Plan → Type 0
   Planned p = (g : ℕ) → Goals n g → ofGoal (p .ticks) g ≡ t g
 
-  pub free-less : (B : ℕ → Bool) (set x : ℕ) → x ≤ goalLimit → Free B set → Free (λ g. B g || eqb g x) (without set (alone x))
+  pub free-less : (B : ℕ → Bool) (set x : ℕ) → x ≤ w → Free B set → Free (λ g. B g || eqb g x) (without set (alone w x))
   free-less B set x u f =
       record {
-        inside = λ g e. f .inside g (and-l (hasGoal set g) (not (hasGoal (alone x) g)) (sym (goal-without set (alone x) g) ∙ e));
+        inside = λ g e. f .inside g (and-l (hasGoal set g) (not (hasGoal (alone w x) g)) (sym (goal-without set (alone w x) g) ∙ e));
         says =
             λ g a.
-            goal-without set (alone x) g
-            ∙ ap₂ (λ y z. y && not z) (f .says g a) (has-alone x g u ∙ (ap (λ y. eqb g x && y) (le-leb 1 g (a .0)) ∙ and-yes (eqb g x)))
+            goal-without set (alone w x) g
+            ∙ ap₂ (λ y z. y && not z) (f .says g a) (has-alone w x g u ∙ (ap (λ y. eqb g x && y) (le-leb 1 g (a .0)) ∙ and-yes (eqb g x)))
             ∙ shift (E g) (B g) (ready R n E g) (eqb g x);
       }
 
   module _ (B : ℕ → Bool) (set : ℕ) (f : Free B set) where
-    pub next-is : lowest (hasGoal set) goalLimit ≡ next R n E B
+    pub next-is : lowest (hasGoal set) w ≡ next R n E B
     next-is =
         ⊎-elim
         (λ l.
-        lowest-of (hasGoal set) goalLimit (next R n E B) (l .goals .0, omega (arith, l .goals .1)) (f .says (next R n E B) (l .goals) ∙ l .passes)
+        lowest-of (hasGoal set) w (next R n E B) (l .goals .0, omega (arith, l .goals .1)) (f .says (next R n E B) (l .goals) ∙ l .passes)
         (λ i a b. f .says i (a, omega (arith, l .goals .1)) ∙ l .none-below i a b))
         (λ l.
-        lowest-none (hasGoal set) goalLimit
+        lowest-none (hasGoal set) w
         (λ i a. is-false (hasGoal set i) (λ h. let c = f .inside i h in true≢false (sym (sym (f .says i c) ∙ h) ∙ l .none i c)))
         ∙ sym (l .zero-is))
         (lowest-is (can B) n)
@@ -84,7 +84,7 @@ module _ (R : ℕ → ℕ → Bool) (n : ℕ) (t : ℕ → ℕ) (E : ℕ → Boo
         (lowest-is (can B) n)
 
     -- an idle head takes what the rule offers
-    pub taking-is : (h : Head) (b : Board) (p : Plan) → b .free ≡ set → Planned p → taking h b p ≡ offer R n t E B h
+    pub taking-is : (h : Head) (b : Board) (p : Plan) → b .free ≡ set → Planned p → taking w h b p ≡ offer R n t E B h
     taking-is h b p e q =
-        ap (λ (g : ℕ). cond (eqb (h .goal) 0) (record { goal = g; left = ofGoal (p .ticks) g }) h) (ap (λ (m : ℕ). lowest (hasGoal m) goalLimit) e ∙ next-is)
+        ap (λ (g : ℕ). cond (eqb (h .goal) 0) (record { goal = g; left = ofGoal (p .ticks) g }) h) (ap (λ (m : ℕ). lowest (hasGoal m) w) e ∙ next-is)
         ∙ ap (λ (l : ℕ). cond (eqb (h .goal) 0) (record { goal = next R n E B; left = l }) h) (left-is p q)

@@ -23,15 +23,15 @@ use Rattle.dispatch_steps.proofs.Masks.{step-goes}
 use Rattle.dispatch_steps.proofs.Free.{has-alone, Free, Planned, free-less, taking-is}
 
 -- the goals that have ended once a head has worked
-done-is : (m : ℕ) (k : Head) → k .goal ≤ goalLimit → (g : ℕ) → hasGoal (finishing k m) g ≡ (hasGoal m g || (eqb g (k .goal) && leb 1 g && eqb (k .left - 1) 0))
-done-is m k u g =
+done-is : (w m : ℕ) (k : Head) → k .goal ≤ w → (g : ℕ) → hasGoal (finishing w k m) g ≡ (hasGoal m g || (eqb g (k .goal) && leb 1 g && eqb (k .left - 1) 0))
+done-is w m k u g =
     ⊎-elim
     (λ (z : eqb (k .left - 1) 0 ≡ true).
-    ap (λ b. hasGoal (cond b (union m (alone (k .goal))) m) g) z
-    ∙ (goal-union m (alone (k .goal)) g
-    ∙ ap (λ x. hasGoal m g || x) (has-alone (k .goal) g u ∙ sym (ap (λ b. eqb g (k .goal) && leb 1 g && b) z ∙ and-yes (eqb g (k .goal) && leb 1 g)))))
+    ap (λ b. hasGoal (cond b (union m (alone w (k .goal))) m) g) z
+    ∙ (goal-union m (alone w (k .goal)) g
+    ∙ ap (λ x. hasGoal m g || x) (has-alone w (k .goal) g u ∙ sym (ap (λ b. eqb g (k .goal) && leb 1 g && b) z ∙ and-yes (eqb g (k .goal) && leb 1 g)))))
     (λ (z : eqb (k .left - 1) 0 ≡ false).
-    ap (λ b. hasGoal (cond b (union m (alone (k .goal))) m) g) z
+    ap (λ b. hasGoal (cond b (union m (alone w (k .goal))) m) g) z
     ∙ sym (ap (λ x. hasGoal m g || x) (ap (λ b. eqb g (k .goal) && leb 1 g && b) z ∙ and-no (eqb g (k .goal) && leb 1 g)) ∙ or-false (hasGoal m g)))
     (test (eqb (k .left - 1) 0))
 
@@ -48,7 +48,7 @@ module _ (R : ℕ → ℕ → Bool) (n : ℕ) (t : ℕ → ℕ) (E : ℕ → Boo
   go-sweep (h ∷ hs) b ph B f low =
       let k = offer R n t E B h in
       let e = taking-is R n t E few B (b .free) f h b p refl pl in
-      let c = goOf h b p .board in
+      let c = goOf goalLimit h b p .board in
       let s = step-goes h b p ph in
       let u : k .goal ≤ goalLimit = low k (inl refl) in
       let f′ : Free R n t E few (λ g. B g || eqb g (k .goal)) (c .free) =
@@ -61,7 +61,7 @@ module _ (R : ℕ → ℕ → Bool) (n : ℕ) (t : ℕ → ℕ) (E : ℕ → Boo
             λ g.
             ap (λ (x : Stepped). hasGoal (sweepBoard p hs (x .board) .done) g) s
             ∙ (ih .done g
-            ∙ (ap (λ x. x || ends rest g) (ap (λ x. hasGoal (finishing x (b .done)) g) e ∙ done-is (b .done) k u g)
+            ∙ (ap (λ x. x || ends rest g) (ap (λ x. hasGoal (finishing goalLimit x (b .done)) g) e ∙ done-is goalLimit (b .done) k u g)
             ∙ or-assoc (hasGoal (b .done) g) (eqb g (k .goal) && leb 1 g && eqb (k .left - 1) 0) (ends rest g)));
         phase = ap (λ (x : Stepped). sweepBoard p hs (x .board) .phase) s ∙ ih .phase;
       }

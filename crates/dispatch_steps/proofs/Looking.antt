@@ -45,7 +45,7 @@ module _ (p : Plan) where
   -- ---- the look, one head after another
   abbrev pub lookAll : List Head → Board → Bool
   lookAll [] b = true
-  lookAll (h ∷ hs) b = isFine b p h && lookAll hs (lookOf h b p)
+  lookAll (h ∷ hs) b = isFine goalLimit b p h && lookAll hs (lookOf goalLimit h b p)
 
   -- what it leaves: the row, and on the board all but what was looked for
   pub record Looked (hs : List Head) (b : Board) : Type 0 where
@@ -58,12 +58,12 @@ module _ (p : Plan) where
   unfolding sweepHeads sweepBoard
   look-sweep [] b e = record { heads = refl; done = refl; good = λ u. e; bad = λ u. absurd (true≢false u) }
   look-sweep (h ∷ hs) b e =
-      let c = lookOf h b p in
+      let c = lookOf goalLimit h b p in
       let s = step-looks h b p e in
       let to : sweepBoard p hs (stepOf h b p .board) ≡ sweepBoard p hs c = ap (λ (x : Stepped). sweepBoard p hs (x .board)) s in
       let row : sweepHeads p (h ∷ hs) b ≡ h ∷ sweepHeads p hs c = ap (λ (x : Stepped). x .head ∷ sweepHeads p hs (x .board)) s in
       ⊎-elim
-      (λ (f : isFine b p h ≡ true).
+      (λ (f : isFine goalLimit b p h ≡ true).
       let r = look-sweep hs c (ap (λ x. cond x (b .phase) resting) f ∙ e) in
       let k : lookAll (h ∷ hs) b ≡ lookAll hs c = ap (λ x. x && lookAll hs c) f in
       record {
@@ -72,7 +72,7 @@ module _ (p : Plan) where
         good = λ u. ap (λ (x : Board). x .phase) to ∙ r .good (sym k ∙ u);
         bad = λ u. ap (λ (x : Board). x .phase) to ∙ r .bad (sym k ∙ u);
       })
-      (λ (f : isFine b p h ≡ false).
+      (λ (f : isFine goalLimit b p h ≡ false).
       let q : c .phase ≡ resting = ap (λ x. cond x (b .phase) resting) f in
       let r = rest-sweep hs c q in
       record {
@@ -81,7 +81,7 @@ module _ (p : Plan) where
         good = λ u. absurd (true≢false (sym u ∙ ap (λ x. x && lookAll hs c) f));
         bad = λ u. ap (λ (x : Board). x .phase) (to ∙ r .1) ∙ q;
       })
-      (test (isFine b p h))
+      (test (isFine goalLimit b p h))
 
 -- ---- by the rule
 module _ (R : ℕ → ℕ → Bool) (n : ℕ) (t : ℕ → ℕ) (E : ℕ → Bool) (few : n ≤ goalLimit) (p : Plan) (pl : Planned R n t E few p) where
@@ -89,7 +89,7 @@ module _ (R : ℕ → ℕ → Bool) (n : ℕ) (t : ℕ → ℕ) (E : ℕ → Boo
   rule h = leb (h .goal) n && (not (E (h .goal)) && (leb 1 (h .left) && (leb (h .left) (t (h .goal)) && ready R n E (h .goal))))
 
   module _ (B : ℕ → Bool) (b : Board) (f : Free R n t E few B (b .free)) (h : Head) where
-    fine-to : isFine b p h ≡ true → (fineHead R n t E h ≡ true) × (1 ≤ h .goal → B (h .goal) ≡ false)
+    fine-to : isFine goalLimit b p h ≡ true → (fineHead R n t E h ≡ true) × (1 ≤ h .goal → B (h .goal) ≡ false)
     fine-to =
         by-test (λ x. x ≡ true → (fineHead R n t E h ≡ true) × (1 ≤ h .goal → B (h .goal) ≡ false)) (eqb (h .goal) 0)
         (λ z e. (ap (λ x. cond x (eqb (h .left) 0) (rule h)) z ∙ e, λ l. absurd (let y = eqb-true (h .goal) 0 z in omega arith)))
@@ -105,9 +105,9 @@ module _ (R : ℕ → ℕ → Bool) (n : ℕ) (t : ℕ → ℕ) (E : ℕ → Boo
           λ l. not-true (B (h .goal)) (d .1),
         ))
 
-    fine-from : fineHead R n t E h ≡ true → (1 ≤ h .goal → B (h .goal) ≡ false) → isFine b p h ≡ true
+    fine-from : fineHead R n t E h ≡ true → (1 ≤ h .goal → B (h .goal) ≡ false) → isFine goalLimit b p h ≡ true
     fine-from =
-        by-test (λ x. x ≡ true → (1 ≤ h .goal → B (h .goal) ≡ false) → isFine b p h ≡ true) (eqb (h .goal) 0)
+        by-test (λ x. x ≡ true → (1 ≤ h .goal → B (h .goal) ≡ false) → isFine goalLimit b p h ≡ true) (eqb (h .goal) 0)
         (λ z e k.
         ap
         (λ x.
@@ -147,9 +147,9 @@ module _ (R : ℕ → ℕ → Bool) (n : ℕ) (t : ℕ → ℕ) (E : ℕ → Boo
   pub look-to : (hs : List Head) (B : ℕ → Bool) (b : Board) → Free R n t E few B (b .free) → lookAll p hs b ≡ true → Single B hs
   look-to [] B b f u = record { fine = refl; once = λ g l. omega arith; new = λ g l e. refl }
   look-to (h ∷ hs) B b f u =
-      let k = and-true (isFine b p h) (lookAll p hs (lookOf h b p)) u in
+      let k = and-true (isFine goalLimit b p h) (lookAll p hs (lookOf goalLimit h b p)) u in
       let q = fine-to B b f h (k .0) in
-      let r = look-to hs (λ g. B g || eqb g (h .goal)) (lookOf h b p) (free-less R n t E few B (b .free) (h .goal) (low h (q .0)) f) (k .1) in
+      let r = look-to hs (λ g. B g || eqb g (h .goal)) (lookOf goalLimit h b p) (free-less R n t E few B (b .free) (h .goal) (low h (q .0)) f) (k .1) in
       record {
         fine = ap₂ _&&_ (q .0) (r .fine);
         once =
@@ -176,7 +176,7 @@ module _ (R : ℕ → ℕ → Bool) (n : ℕ) (t : ℕ → ℕ) (E : ℕ → Boo
       ap₂ _&&_
       (fine-from B b f h (k .0)
       (λ l. ⊎-elim (λ y. absurd (let z = v .new (h .goal) l y in omega (arith, count-here h hs (h .goal) refl))) (λ y. y) (test (B (h .goal)))))
-      (look-from hs (λ g. B g || eqb g (h .goal)) (lookOf h b p) (free-less R n t E few B (b .free) (h .goal) (low h (k .0)) f)
+      (look-from hs (λ g. B g || eqb g (h .goal)) (lookOf goalLimit h b p) (free-less R n t E few B (b .free) (h .goal) (low h (k .0)) f)
       (record {
         fine = k .1;
         once = λ g l. omega (arith, v .once g l);
@@ -202,9 +202,9 @@ module _ (R : ℕ → ℕ → Bool) (n : ℕ) (t : ℕ → ℕ) (E : ℕ → Boo
   unfolding sweepBoard
   look-free [] B b ph f u = record { inside = f .inside; says = λ g a. f .says g a ∙ ap (λ x. not (E g) && not x && ready R n E g) (sym (or-none (B g))) }
   look-free (h ∷ hs) B b ph f u =
-      let k = and-true (isFine b p h) (lookAll p hs (lookOf h b p)) u in
+      let k = and-true (isFine goalLimit b p h) (lookAll p hs (lookOf goalLimit h b p)) u in
       let q = fine-to B b f h (k .0) in
-      let c = lookOf h b p in
+      let c = lookOf goalLimit h b p in
       let r =
       look-free hs (λ g. B g || eqb g (h .goal)) c (ap (λ x. cond x (b .phase) resting) (k .0) ∙ ph)
       (free-less R n t E few B (b .free) (h .goal) (low h (q .0)) f) (k .1) in

@@ -35,109 +35,110 @@ of-goal l zero h = absurd (omega arith)
 of-goal l (suc i) h = ap (λ (x : ℕ). getD l x 0) (less-one i)
 
 -- ---- a goal alone
-pub alone-at : (g : ℕ) → 1 ≤ g → g ≤ goalLimit → single (g - 1) ≡ alone g
-alone-at zero l u = absurd (omega arith)
-alone-at (suc i) l u = ap single (less-one i) ∙ sym (ap (λ b. cond b (single i) 0) (lt-ltb i goalLimit (omega arith)))
+pub alone-at : (w g : ℕ) → 1 ≤ g → g ≤ w → single (g - 1) ≡ alone w g
+alone-at w zero l u = absurd (omega arith)
+alone-at w (suc i) l u = ap single (less-one i) ∙ sym (ap (λ b. cond b (single i) 0) (lt-ltb i w (omega arith)))
 
-pub alone-none : (g : ℕ) → g ≡ 0 → 0 ≡ alone g
-alone-none g e = sym (ap alone e)
+pub alone-none : (w g : ℕ) → g ≡ 0 → 0 ≡ alone w g
+alone-none w g e = sym (ap (alone w) e)
 
-pub alone-high : (g : ℕ) → goalLimit < g → 0 ≡ alone g
-alone-high zero l = refl
-alone-high (suc i) l = sym (ap (λ b. cond b (single i) 0) (le-ltb i goalLimit (omega arith)))
+pub alone-high : (w g : ℕ) → w < g → 0 ≡ alone w g
+alone-high w zero l = refl
+alone-high w (suc i) l = sym (ap (λ b. cond b (single i) 0) (le-ltb i w (omega arith)))
 
 -- ---- the lowest goal of a set
-pub lowest-empty : (m : ℕ) → m ≡ 0 → 0 ≡ lowest (hasGoal m) goalLimit
-lowest-empty m e = sym (lowest-none (hasGoal m) goalLimit (λ i a. ap (λ (x : ℕ). hasGoal x i) e ∙ goal-none i))
+pub lowest-empty : (w m : ℕ) → m ≡ 0 → 0 ≡ lowest (hasGoal m) w
+lowest-empty w m e = sym (lowest-none (hasGoal m) w (λ i a. ap (λ (x : ℕ). hasGoal x i) e ∙ goal-none i))
 
-pub lowest-first : (m : ℕ) → m < 2 ^ goalLimit → (m ≡ 0 → ⊥) → first goalLimit m + 1 ≡ lowest (hasGoal m) goalLimit
-lowest-first m l e =
-    let x = first goalLimit m in
-    let u = first-in goalLimit m l e in
+pub lowest-first : (w m : ℕ) → m < 2 ^ w → (m ≡ 0 → ⊥) → first w m + 1 ≡ lowest (hasGoal m) w
+lowest-first w m l e =
+    let x = first w m in
+    let u = first-in w m l e in
     let z : x + 1 ≡ suc x = omega arith in
-    z ∙ sym (lowest-of (hasGoal m) goalLimit (suc x) (omega arith, omega arith) (first-member goalLimit m u) (λ i a b. is-false (hasGoal m i) (λ h. omega (arith, lowest-least goalLimit m i h))))
+    z ∙ sym (lowest-of (hasGoal m) w (suc x) (omega arith, omega arith) (first-member w m u) (λ i a b. is-false (hasGoal m i) (λ h. omega (arith, lowest-least w m i h))))
 
 -- ---- a head's turn
-module _ (h : Head) (b : Board) (p : Plan) where
+module _ (w : ℕ) (h : Head) (b : Board) (p : Plan) where
   -- what is asked of a busy head
   abbrev parts : Bool
-  parts = leb (h .goal) goalLimit && (hasGoal (b .free) (h .goal) && (leb 1 (h .left) && leb (h .left) (ofGoal (p .ticks) (h .goal))))
+  parts = leb (h .goal) w && (hasGoal (b .free) (h .goal) && (leb 1 (h .left) && leb (h .left) (ofGoal (p .ticks) (h .goal))))
 
-  pub fine-idle : h .goal ≡ 0 → eqb (h .left) 0 ≡ isFine b p h
+  pub fine-idle : h .goal ≡ 0 → eqb (h .left) 0 ≡ isFine w b p h
   fine-idle e = sym (ap (λ x. cond x (eqb (h .left) 0) parts) (eq-eqb (h .goal) 0 e))
 
   module _ (e : h .goal ≡ 0 → ⊥) where
-    busy-is : isFine b p h ≡ parts
+    busy-is : isFine w b p h ≡ parts
     busy-is = ap (λ x. cond x (eqb (h .left) 0) parts) (ne-eqb (h .goal) 0 e)
 
-    pub fine-wide : goalLimit < h .goal → false ≡ isFine b p h
-    fine-wide l = sym (busy-is ∙ simp (lt-leb (h .goal) goalLimit l))
+    pub fine-wide : w < h .goal → false ≡ isFine w b p h
+    fine-wide l = sym (busy-is ∙ simp (lt-leb (h .goal) w l))
 
-    module _ (u : h .goal ≤ goalLimit) where
-      pub fine-shut : hasGoal (b .free) (h .goal) ≡ false → false ≡ isFine b p h
-      fine-shut f = sym (busy-is ∙ simp (le-leb (h .goal) goalLimit u, f))
+    module _ (u : h .goal ≤ w) where
+      pub fine-shut : hasGoal (b .free) (h .goal) ≡ false → false ≡ isFine w b p h
+      fine-shut f = sym (busy-is ∙ simp (le-leb (h .goal) w u, f))
 
-      pub fine-none-left : hasGoal (b .free) (h .goal) ≡ true → h .left ≡ 0 → false ≡ isFine b p h
-      fine-none-left f z = sym (busy-is ∙ simp (le-leb (h .goal) goalLimit u, f, lt-leb 1 (h .left) (omega arith)))
+      pub fine-none-left : hasGoal (b .free) (h .goal) ≡ true → h .left ≡ 0 → false ≡ isFine w b p h
+      fine-none-left f z = sym (busy-is ∙ simp (le-leb (h .goal) w u, f, lt-leb 1 (h .left) (omega arith)))
 
-      pub fine-left : hasGoal (b .free) (h .goal) ≡ true → (h .left ≡ 0 → ⊥) → leb (h .left) (getD (p .ticks) (h .goal - 1) 0) ≡ isFine b p h
+      pub fine-left : hasGoal (b .free) (h .goal) ≡ true → (h .left ≡ 0 → ⊥) → leb (h .left) (getD (p .ticks) (h .goal - 1) 0) ≡ isFine w b p h
       fine-left f z =
           ap (leb (h .left)) (of-goal (p .ticks) (h .goal) (omega arith))
-          ∙ sym (busy-is ∙ ap₂ (λ x y. x && (y && (leb 1 (h .left) && leb (h .left) (ofGoal (p .ticks) (h .goal))))) (le-leb (h .goal) goalLimit u) f
+          ∙ sym (busy-is ∙ ap₂ (λ x y. x && (y && (leb 1 (h .left) && leb (h .left) (ofGoal (p .ticks) (h .goal))))) (le-leb (h .goal) w u) f
           ∙ ap (λ x. x && leb (h .left) (ofGoal (p .ticks) (h .goal))) (le-leb 1 (h .left) (omega arith)))
 
-  pub looked : (ok : Bool) (phase one free : ℕ) → ok ≡ isFine b p h → phase ≡ cond ok (b .phase) resting → one ≡ alone (h .goal) → free ≡ without (b .free) one
-      → _≡_ {A = Board} (record { phase = phase; free = free; done = b .done }) (lookOf h b p)
+  pub looked : (ok : Bool) (phase one free : ℕ) → ok ≡ isFine w b p h → phase ≡ cond ok (b .phase) resting → one ≡ alone w (h .goal) → free ≡ without (b .free) one
+      → _≡_ {A = Board} (record { phase = phase; free = free; done = b .done }) (lookOf w h b p)
   looked ok phase one free e q r s =
-      let q′ : phase ≡ cond (isFine b p h) (b .phase) resting = q ∙ ap (λ x. cond x (b .phase) resting) e in
-      let s′ : free ≡ without (b .free) (alone (h .goal)) = s ∙ ap (without (b .free)) r in
+      let q′ : phase ≡ cond (isFine w b p h) (b .phase) resting = q ∙ ap (λ x. cond x (b .phase) resting) e in
+      let s′ : free ≡ without (b .free) (alone w (h .goal)) = s ∙ ap (without (b .free)) r in
       λ i. record { phase = q′ i; free = s′ i; done = b .done }
 
   abbrev lowest-free : ℕ
-  lowest-free = lowest (hasGoal (b .free)) goalLimit
+  lowest-free = lowest (hasGoal (b .free)) w
 
   abbrev fresh : ℕ → Head
   fresh g = record { goal = g; left = ofGoal (p .ticks) g }
 
-  pub taking-busy : (h .goal ≡ 0 → ⊥) → h ≡ taking h b p
+  pub taking-busy : (h .goal ≡ 0 → ⊥) → h ≡ taking w h b p
   taking-busy e = sym (ap (λ x. cond x (fresh lowest-free) h) (ne-eqb (h .goal) 0 e))
 
-  taking-idle : h .goal ≡ 0 → taking h b p ≡ fresh lowest-free
+  taking-idle : h .goal ≡ 0 → taking w h b p ≡ fresh lowest-free
   taking-idle e = ap (λ x. cond x (fresh lowest-free) h) (eq-eqb (h .goal) 0 e)
 
-  pub taking-none : (g : ℕ) → h .goal ≡ 0 → g ≡ lowest-free → g ≡ 0 → _≡_ {A = Head} (record { goal = 0; left = 0 }) (taking h b p)
+  pub taking-none : (g : ℕ) → h .goal ≡ 0 → g ≡ lowest-free → g ≡ 0 → _≡_ {A = Head} (record { goal = 0; left = 0 }) (taking w h b p)
   taking-none g e f z = ap fresh (sym z ∙ f) ∙ sym (taking-idle e)
 
-  pub taking-new : (g : ℕ) → h .goal ≡ 0 → g ≡ lowest-free → (g ≡ 0 → ⊥) → _≡_ {A = Head} (record { goal = g; left = getD (p .ticks) (g - 1) 0 }) (taking h b p)
+  pub taking-new : (g : ℕ) → h .goal ≡ 0 → g ≡ lowest-free → (g ≡ 0 → ⊥) → _≡_ {A = Head} (record { goal = g; left = getD (p .ticks) (g - 1) 0 }) (taking w h b p)
   taking-new g e f z = ap (λ (x : ℕ). record { goal = g; left = x }) (of-goal (p .ticks) g (omega arith)) ∙ (ap fresh f ∙ sym (taking-idle e))
 
-  pub gone : (k : Head) (one free done : ℕ) (head : Head) → k ≡ taking h b p → one ≡ alone (k .goal) → free ≡ without (b .free) one → done ≡ finishing k (b .done) → head ≡ worked k
-      → _≡_ {A = Stepped} (record { head = head; board = record { phase = b .phase; free = free; done = done } }) (goOf h b p)
+  pub gone : (k : Head) (one free done : ℕ) (head : Head) → k ≡ taking w h b p → one ≡ alone w (k .goal) → free ≡ without (b .free) one → done ≡ finishing w k (b .done) → head ≡ worked k
+      → _≡_ {A = Stepped} (record { head = head; board = record { phase = b .phase; free = free; done = done } }) (goOf w h b p)
   gone k one free done head e q r s t =
-      let r′ : free ≡ without (b .free) (alone (taking h b p .goal)) = r ∙ ap (without (b .free)) (q ∙ ap (λ (x : Head). alone (x .goal)) e) in
-      let s′ : done ≡ finishing (taking h b p) (b .done) = s ∙ ap (λ x. finishing x (b .done)) e in
-      let t′ : head ≡ worked (taking h b p) = t ∙ ap worked e in
+      let r′ : free ≡ without (b .free) (alone w (taking w h b p .goal)) = r ∙ ap (without (b .free)) (q ∙ ap (λ (x : Head). alone w (x .goal)) e) in
+      let s′ : done ≡ finishing w (taking w h b p) (b .done) = s ∙ ap (λ x. finishing w x (b .done)) e in
+      let t′ : head ≡ worked (taking w h b p) = t ∙ ap worked e in
       λ i. record { head = t′ i; board = record { phase = b .phase; free = r′ i; done = s′ i } }
 
-  -- ---- which turn it is
+-- ---- which turn it is
+module _ (h : Head) (b : Board) (p : Plan) where
   abbrev looks : Stepped
-  looks = record { head = h; board = lookOf h b p }
+  looks = record { head = h; board = lookOf goalLimit h b p }
 
   abbrev rests : Stepped
   rests = record { head = restOf h (b .phase); board = b }
 
-  pub step-goes : b .phase ≡ going → stepOf h b p ≡ goOf h b p
+  pub step-goes : b .phase ≡ going → stepOf h b p ≡ goOf goalLimit h b p
   unfolding stepOf
-  step-goes e = ap (λ x. cond x (goOf h b p) (cond (eqb (b .phase) looking) looks rests)) (eq-eqb (b .phase) going e)
+  step-goes e = ap (λ x. cond x (goOf goalLimit h b p) (cond (eqb (b .phase) looking) looks rests)) (eq-eqb (b .phase) going e)
 
   pub step-looks : b .phase ≡ looking → stepOf h b p ≡ looks
   unfolding stepOf
   step-looks e =
-      ap₂ (λ x y. cond x (goOf h b p) (cond y looks rests)) (ne-eqb (b .phase) going (λ z. omega arith)) (eq-eqb (b .phase) looking e)
+      ap₂ (λ x y. cond x (goOf goalLimit h b p) (cond y looks rests)) (ne-eqb (b .phase) going (λ z. omega arith)) (eq-eqb (b .phase) looking e)
 
   pub step-rests : (b .phase ≡ going → ⊥) → (b .phase ≡ looking → ⊥) → stepOf h b p ≡ rests
   unfolding stepOf
-  step-rests e f = ap₂ (λ x y. cond x (goOf h b p) (cond y looks rests)) (ne-eqb (b .phase) going e) (ne-eqb (b .phase) looking f)
+  step-rests e f = ap₂ (λ x y. cond x (goOf goalLimit h b p) (cond y looks rests)) (ne-eqb (b .phase) going e) (ne-eqb (b .phase) looking f)
 
 -- ---- one tick of work
 module _ (h : Head) where
@@ -147,13 +148,13 @@ module _ (h : Head) where
   pub work-goes : 1 < h .left → _≡_ {A = Head} (record { goal = h .goal; left = h .left - 1 }) (worked h)
   work-goes l = sym (ap (λ b. cond b idle (record { goal = h .goal; left = h .left - 1 })) (ne-eqb (h .left - 1) 0 (λ e. omega arith)))
 
-  module _ (done one : ℕ) where
-    pub done-more : (r : ℕ) → h .left ≤ 1 → one ≡ alone (h .goal) → r ≡ union done one → r ≡ finishing h done
+  module _ (w done one : ℕ) where
+    pub done-more : (r : ℕ) → h .left ≤ 1 → one ≡ alone w (h .goal) → r ≡ union done one → r ≡ finishing w h done
     done-more r l e f =
-        f ∙ (ap (union done) e ∙ sym (ap (λ b. cond b (union done (alone (h .goal))) done) (eq-eqb (h .left - 1) 0 (omega arith))))
+        f ∙ (ap (union done) e ∙ sym (ap (λ b. cond b (union done (alone w (h .goal))) done) (eq-eqb (h .left - 1) 0 (omega arith))))
 
-    pub done-same : 1 < h .left → done ≡ finishing h done
-    done-same l = sym (ap (λ b. cond b (union done (alone (h .goal))) done) (ne-eqb (h .left - 1) 0 (λ e. omega arith)))
+    pub done-same : 1 < h .left → done ≡ finishing w h done
+    done-same l = sym (ap (λ b. cond b (union done (alone w (h .goal))) done) (ne-eqb (h .left - 1) 0 (λ e. omega arith)))
 
 -- ---- a head that is made idle, or rests
 pub rest-idle : (h : Head) (phase : ℕ) → phase ≡ idling → _≡_ {A = Head} (record { goal = 0; left = 0 }) (restOf h phase)

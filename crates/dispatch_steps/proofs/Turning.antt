@@ -27,10 +27,10 @@ use Rattle.dispatch_steps.proofs.Free.{Free, Planned}
 use Rattle.dispatch_steps.proofs.Going.{go-ticks}
 use Rattle.dispatch_steps.proofs.Looking.{rest-sweep, idle-sweep, lookAll, look-sweep, look-to, look-from, look-free}
 
--- a set of 32 bits has goals up to 32 alone
-pub has-wide : (m g : ℕ) → m < 2 ^ goalLimit → hasGoal m g ≡ true → Goals goalLimit g
-has-wide m zero l e = absurd (false≢true e)
-has-wide m (suc i) l e = (omega arith, member-below goalLimit m i l e)
+-- a set of w bits has goals up to w alone
+pub has-wide : (w m g : ℕ) → m < 2 ^ w → hasGoal m g ≡ true → Goals w g
+has-wide w m zero l e = absurd (false≢true e)
+has-wide w m (suc i) l e = (omega arith, member-below w m i l e)
 
 module _ (o : Opening) (hs : List Head) where
   abbrev b : Board
@@ -79,7 +79,7 @@ module _ (o : Opening) (hs : List Head) where
       pub turn-accepts : valid ≡ true → Accepted
       unfolding turnHeads turnBoard
       turn-accepts e =
-          let v = valid-is R n t goalLimit (stateOf hs m) (λ g. has-wide m g small) .0 e in
+          let v = valid-is R n t goalLimit (stateOf hs m) (λ g. has-wide goalLimit m g small) .0 e in
           let f = and-true fine-heads _ e .0 in
           let l = look-sweep p hs b ph in
           let u = look-from R n t (hasGoal m) few p pl hs (λ g. false) b free (record { fine = f; once = v .once; new = λ g a y. absurd (false≢true y) }) in

@@ -31,48 +31,48 @@ resting = 2
 abbrev pub idling : ℕ
 idling = 3
 
--- goal g alone; no other number is in a set of goals
-abbrev pub alone : ℕ → ℕ
-alone zero = 0
-alone (suc i) = cond (ltb i goalLimit) (single i) 0
+-- goal g alone, in a set of w goals; no other number is in such a set
+abbrev pub alone : ℕ → ℕ → ℕ
+alone w zero = 0
+alone w (suc i) = cond (ltb i w) (single i) 0
 
 -- what an array has for goal g, at place g - 1; 0 is no goal
 abbrev pub ofGoal : List ℕ → ℕ → ℕ
 ofGoal l zero = 0
 ofGoal l (suc i) = getD l i 0
 
--- ---- a head is looked at
-abbrev pub isFine : Board → Plan → Head → Bool
-isFine b p h =
+-- ---- a head is looked at, where sets have w goals
+abbrev pub isFine : ℕ → Board → Plan → Head → Bool
+isFine w b p h =
     cond (eqb (h .goal) 0) (eqb (h .left) 0)
-    (leb (h .goal) goalLimit && (hasGoal (b .free) (h .goal) && (leb 1 (h .left) && leb (h .left) (ofGoal (p .ticks) (h .goal)))))
+    (leb (h .goal) w && (hasGoal (b .free) (h .goal) && (leb 1 (h .left) && leb (h .left) (ofGoal (p .ticks) (h .goal)))))
 
-abbrev pub lookOf : Head → Board → Plan → Board
-lookOf h b p =
+abbrev pub lookOf : ℕ → Head → Board → Plan → Board
+lookOf w h b p =
     record {
-      phase = cond (isFine b p h) (b .phase) resting;
-      free = without (b .free) (alone (h .goal));
+      phase = cond (isFine w b p h) (b .phase) resting;
+      free = without (b .free) (alone w (h .goal));
       done = b .done;
     }
 
 -- ---- a head takes a goal, if it is idle, and works
-abbrev pub taking : Head → Board → Plan → Head
-taking h b p =
-    let g = lowest (hasGoal (b .free)) goalLimit in
+abbrev pub taking : ℕ → Head → Board → Plan → Head
+taking w h b p =
+    let g = lowest (hasGoal (b .free)) w in
     cond (eqb (h .goal) 0) (record { goal = g; left = ofGoal (p .ticks) g }) h
 
-abbrev pub finishing : Head → ℕ → ℕ
-finishing h done = cond (eqb (h .left - 1) 0) (union done (alone (h .goal))) done
+abbrev pub finishing : ℕ → Head → ℕ → ℕ
+finishing w h done = cond (eqb (h .left - 1) 0) (union done (alone w (h .goal))) done
 
-abbrev pub goOf : Head → Board → Plan → Stepped
-goOf h b p =
+abbrev pub goOf : ℕ → Head → Board → Plan → Stepped
+goOf w h b p =
     record {
-      head = worked (taking h b p);
+      head = worked (taking w h b p);
       board =
           record {
             phase = b .phase;
-            free = without (b .free) (alone (taking h b p .goal));
-            done = finishing (taking h b p) (b .done);
+            free = without (b .free) (alone w (taking w h b p .goal));
+            done = finishing w (taking w h b p) (b .done);
           };
     }
 
@@ -83,8 +83,8 @@ restOf h phase = cond (eqb phase idling) idle h
 -- ---- a head's turn
 unfoldable pub stepOf : Head → Board → Plan → Stepped
 stepOf h b p =
-    cond (eqb (b .phase) going) (goOf h b p)
-    (cond (eqb (b .phase) looking) (record { head = h; board = lookOf h b p }) (record { head = restOf h (b .phase); board = b }))
+    cond (eqb (b .phase) going) (goOf goalLimit h b p)
+    (cond (eqb (b .phase) looking) (record { head = h; board = lookOf goalLimit h b p }) (record { head = restOf h (b .phase); board = b }))
 
 -- ---- the heads of a row in turn, lowest first: the row that they leave, and the board
 unfoldable pub sweepHeads : Plan → List Head → Board → List Head

@@ -49,7 +49,7 @@ pub struct Stepped {
 
 // Goal g alone as a set; the empty set for a number that is no goal.
 fn alone(g: u32) -> u32
-    ensures { λ r. ⌜ r ≡ S.alone g ⌝ }
+    ensures { λ r. ⌜ r ≡ S.alone goalLimit g ⌝ }
 {
     if g == 0 {
         return 0;
@@ -81,7 +81,7 @@ fn lowest_of(set: u32) -> u32
 
 // The head may be as it is: idle with no ticks left, or at a free goal with ticks left, no more than the goal takes.
 fn fine(h: Head, b: Board, p: Plan) -> bool
-    ensures { λ r. ⌜ r ≡ S.isFine b p h ⌝ }
+    ensures { λ r. ⌜ r ≡ S.isFine goalLimit b p h ⌝ }
 {
     if h.goal == 0 {
         return h.left == 0;
@@ -113,7 +113,7 @@ fn kept(ok: bool, phase: u32) -> u32
 
 // One head is looked at.
 fn look(h: Head, b: Board, p: Plan) -> Board
-    ensures { λ r. ⌜ r ≡ S.lookOf h b p ⌝ }
+    ensures { λ r. ⌜ r ≡ S.lookOf goalLimit h b p ⌝ }
 {
     let ok = fine(h, b, p);
     let phase = kept(ok, b.phase);
@@ -127,7 +127,7 @@ fn look(h: Head, b: Board, p: Plan) -> Board
 
 // The head once it has had its turn to take a goal.
 fn taken(h: Head, b: Board, p: Plan) -> Head
-    ensures { λ r. ⌜ r ≡ S.taking h b p ⌝ }
+    ensures { λ r. ⌜ r ≡ S.taking goalLimit h b p ⌝ }
 {
     if h.goal != 0 {
         return h;
@@ -154,7 +154,7 @@ fn work(h: Head) -> Head
 
 // The goals that have ended once the head has worked.
 fn finished(h: Head, done: u32) -> u32
-    ensures { λ r. ⌜ r ≡ S.finishing h done ⌝ }
+    ensures { λ r. ⌜ r ≡ S.finishing goalLimit h done ⌝ }
 {
     let one = alone(h.goal);
     if h.left <= 1 {
@@ -165,7 +165,7 @@ fn finished(h: Head, done: u32) -> u32
 
 // One head takes a goal, if it is idle, and works.
 fn go(h: Head, b: Board, p: Plan) -> Stepped
-    ensures { λ r. ⌜ r ≡ S.goOf h b p ⌝ }
+    ensures { λ r. ⌜ r ≡ S.goOf goalLimit h b p ⌝ }
 {
     let k = taken(h, b, p);
     let one = alone(k.goal);

@@ -172,7 +172,7 @@ module _ (b : List ℕ) (w : WellFormed b) where
 
         from : (i : ℕ) → has m i ≡ true → each (λ g. not (E g) || (leb g n && ready (before b) n E g)) goalLimit ≡ true → has (without (below n) (waitingOf b m)) i ≡ true
         from i e h =
-            let k = each-at (λ g. not (E g) || (leb g n && ready (before b) n E g)) goalLimit (suc i) h (has-wide m (suc i) small e) in
+            let k = each-at (λ g. not (E g) || (leb g n && ready (before b) n E g)) goalLimit (suc i) h (has-wide goalLimit m (suc i) small e) in
             let q = sym (ap (λ x. not x || (leb (suc i) n && ready (before b) n E (suc i))) e) ∙ k in
             let l = leb-true (suc i) n (and-l (leb (suc i) n) (ready (before b) n E (suc i)) q) in
             let r = ready-is (suc i) (omega arith, l) ∙ ready-fewer b E (suc i) (and-r (leb (suc i) n) (ready (before b) n E (suc i)) q) in
@@ -205,7 +205,7 @@ module _ (b : List ℕ) (w : WellFormed b) where
       unfolding tickOpen tickWord
       goes ph k e =
           let a = turn-accepts o hs (before b) n (ticksAt b) m few-goals (planned E) (before-order b) ticks-from small ph refl (free-is k) e in
-          let v = valid-is (before b) n (ticksAt b) goalLimit (stateOf hs m) (λ g. has-wide m g small) .0 e in
+          let v = valid-is (before b) n (ticksAt b) goalLimit (stateOf hs m) (λ g. has-wide goalLimit m g small) .0 e in
           let v′ = valid-tick (before b) n (ticksAt b) (before-order b) ticks-from (stateOf hs m) v in
           let d = turnBoard o hs .done in
           let same : (g : ℕ) → hasGoal d g ≡ after .ended g = λ g. ap (λ (x : State). x .ended g) (a .state) in

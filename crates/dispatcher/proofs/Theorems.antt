@@ -1,21 +1,24 @@
 -- What request 4 says of starts, ticks and runs, on the operations. For any well-formed record: a form is not asked for.
 use mathlib.Core.Path.{_≡_, refl, sym, ap, ap₂, _∙_, subst, fun-ext}
 use mathlib.Core.Bool.{Bool, true, false, _&&_}
-use mathlib.Core.Logic.{_⊎_, inl, inr, _↔_}
+use mathlib.Core.Logic.{_⊎_, inl, inr, ⊎-elim, _↔_}
 use mathlib.Core.List.{List}
 use Prim.Native.Nat.{ℕ, zero, suc, _+_, _-_, _*_, _<_, _≤_, _^_}
 use native.Mathlib.Omega.{arith}
 use lib.Dec.{leb}
 use lib.ListN.{length, replicate, length-replicate}
-use borrow.Author.Tests.{le-leb, leb-true}
-use Rattle.logic.proofs.Bools.{iff, and-true, clash}
+use borrow.Author.Tests.{le-leb, leb-true, leb-false}
+use Rattle.logic.proofs.Bools.{test, iff, and-true, is-false, clash}
 use Rattle.sets.specs.Sets.{goalLimit}
 use Rattle.graph.specs.Graph.{hasGoal, goalsOf}
 use Rattle.graph.proofs.Goals.{goal-none}
 use Rattle.graph.proofs.Rows.{goals-ext, goals-has, goals-lt}
 use Rattle.record_fields.specs.Facts.{ticksAt}
 use Rattle.record_fields.specs.Fields.{goalCount}
-use Rattle.record_rules.specs.Outcome.{Outcome, refused, accepted, readThen, onlyIf, values, Accepted}
+use Rattle.record_rules.specs.declared.Refusal.{Refusal}
+use Rattle.record_rules.specs.declared.Reading.the-variants.{Refused}
+use Rattle.record_rules.specs.Reading.{reading}
+use Rattle.record_rules.specs.Outcome.{Outcome, refused, accepted, started, readThen, onlyIf, values, Accepted}
 use Rattle.record_rules.proofs.Outcomes.{All, all-refused, all-accepted, all-read, all-only, all-next, read-fine, number-zero, one-value}
 use Rattle.record.specs.Limits.{Bytes, OfReading}
 use Rattle.record.specs.WellFormed.{WellFormed}
@@ -82,7 +85,7 @@ module _ (b : List ℕ) (w : WellFormed b) where
       Fine = (1 ≤ length hs) × (length hs ≤ headLimit) × Valid R n t (stateOf hs m)
 
       same : (isValid R n t goalLimit (stateOf hs m) ≡ true) ↔ Valid R n t (stateOf hs m)
-      same = valid-is R n t goalLimit (stateOf hs m) (λ g. has-wide m g l)
+      same = valid-is R n t goalLimit (stateOf hs m) (λ g. has-wide goalLimit m g l)
 
       by : (f : Bool) → acceptable b hs m ≡ f → Accepted (setOfState (onlyIf f 20 0 (accepted (tick R n t (stateOf hs m))))) ↔ Fine
       by true e =
@@ -91,13 +94,35 @@ module _ (b : List ℕ) (w : WellFormed b) where
           (λ _. (a .0, a .1, same .0 (k .1)), λ _. tt)
       by false e = (λ a. absurd a, λ a. clash (ap₂ _&&_ (few-is (length hs) .1 (a .0, a .1)) (same .1 (a .2))) e)
 
+  -- every other call is refused by 20, at place 0
+  pub start-refused : (hs : List Head) → ((1 ≤ length hs) × (length hs ≤ headLimit) → ⊥) → startAnswer b hs ≡ refused 20 0
+  unfolding startAnswer
+  start-refused hs f = ap setOfState (start-said hs ∙ ap (λ x. onlyIf x 20 0 (accepted (start (length hs)))) (is-false (few (length hs)) (λ e. f (few-is (length hs) .0 e))))
+
+  pub tick-refused : (hs : List Head) (m : ℕ) → m < 2 ^ 32 → ((1 ≤ length hs) × (length hs ≤ headLimit) × Valid R n t (stateOf hs m) → ⊥) → tickAnswer b hs m ≡ refused 20 0
+  unfolding tickAnswer
+  tick-refused hs m l f = by (acceptable b hs m) refl
+    where
+      by : (x : Bool) → acceptable b hs m ≡ x → setOfState (tickOutcome b hs m) ≡ refused 20 0
+      by true e = absurd (f (tick-accepted hs m l .0 (subst (λ u. Accepted (setOfState u)) (sym (tick-said hs m ∙ ap (λ x. onlyIf x 20 0 (accepted (tick R n t (stateOf hs m)))) e)) tt)))
+      by false e = ap setOfState (tick-said hs m ∙ ap (λ x. onlyIf x 20 0 (accepted (tick R n t (stateOf hs m)))) e)
+
   -- ---- a tick that is accepted
-  module _ (hs : List Head) (m : ℕ) (l : m < 2 ^ 32) (e′ : acceptable b hs m ≡ true) where
+  module _ (hs : List Head) (m : ℕ) (l : m < 2 ^ 32) (ac : Accepted (tickAnswer b hs m)) where
+    fine : (1 ≤ length hs) × (length hs ≤ headLimit) × Valid R n t (stateOf hs m)
+    fine = tick-accepted hs m l .0 ac
+
+    valid : Valid R n t (stateOf hs m)
+    valid = fine .2
+
+    taken-up : acceptable b hs m ≡ true
+    taken-up = ap₂ _&&_ (few-is (length hs) .1 (fine .0, fine .1)) (valid-is R n t goalLimit (stateOf hs m) (λ g. has-wide goalLimit m g l) .1 valid)
+
     abbrev ticked : State
     ticked = tick R n t (stateOf hs m)
 
     said : tickOutcome b hs m ≡ accepted ticked
-    said = tick-said hs m ∙ ap (λ x. onlyIf x 20 0 (accepted ticked)) e′
+    said = tick-said hs m ∙ ap (λ x. onlyIf x 20 0 (accepted ticked)) taken-up
 
     row-is : tickRow b hs m ≡ ticked .heads
     unfolding tickRow
@@ -107,19 +132,13 @@ module _ (b : List ℕ) (w : WellFormed b) where
     unfolding tickAnswer
     answer-is = ap setOfState said
 
-    valid : Valid R n t (stateOf hs m)
-    valid = valid-is R n t goalLimit (stateOf hs m) (λ g. has-wide m g l) .0 (and-true (few (length hs)) (isValid R n t goalLimit (stateOf hs m)) e′ .1)
-
-    some-head : 1 ≤ length hs
-    some-head = few-is (length hs) .0 (and-true (few (length hs)) (isValid R n t goalLimit (stateOf hs m)) e′ .0) .0
-
     -- the set that is answered, as a set of goals
     set-says : (g : ℕ) → hasGoal (goalsOf goalLimit (ticked .ended)) g ≡ ticked .ended g
     set-says g =
         let v = valid-tick R n t (before-order b) (ticks-from b w) (stateOf hs m) valid in
         let f = ticked .ended in
         iff (hasGoal (goalsOf goalLimit f) g) (f g)
-        (λ h. let a = has-wide (goalsOf goalLimit f) g (goals-lt goalLimit f) h in sym (goals-has goalLimit f g (a .0) (a .1)) ∙ h)
+        (λ h. let a = has-wide goalLimit (goalsOf goalLimit f) g (goals-lt goalLimit f) h in sym (goals-has goalLimit f g (a .0) (a .1)) ∙ h)
         (λ h. let a = v .known g h in goals-has goalLimit f g (a .0) (omega (arith, a .1, w .goals-to)) ∙ h)
 
     -- "Each tick does what this rule says": the answer is a set, and with the row it is the rule's state
@@ -136,14 +155,13 @@ module _ (b : List ℕ) (w : WellFormed b) where
         let st : stateOf (tickRow b hs m) s ≡ ticked = ap (stateOf (tickRow b hs m)) (one-value (sym e ∙ r .1)) ∙ r .3 in
         let v = valid-tick R n t (before-order b) (ticks-from b w) (stateOf hs m) valid in
         let long : length (tickRow b hs m) ≡ length hs = ap length row-is ∙ long-tick R n t (before-order b) (ticks-from b w) (stateOf hs m) valid in
-        let a = few-is (length hs) .0 (and-true (few (length hs)) (isValid R n t goalLimit (stateOf hs m)) e′ .0) in
         tick-accepted (tickRow b hs m) s (subst (λ (x : ℕ). x < 2 ^ 32) (one-value (sym (r .1) ∙ e)) (r .2)) .1
-        (omega (arith, a .0, long), omega (arith, a .1, long), subst (Valid R n t) (sym st) v)
+        (omega (arith, fine .0, long), omega (arith, fine .1, long), subst (Valid R n t) (sym st) v)
 
     -- "until all goals have ended at least one head works"
     pub tick-works : (g : ℕ) → Goals n g → hasGoal m g ≡ false → 1 ≤ atWork b hs m
     unfolding atWork
-    tick-works g a f = works R n t (before-order b) (ticks-from b w) (stateOf hs m) valid some-head (g, a, f)
+    tick-works g a f = works R n t (before-order b) (ticks-from b w) (stateOf hs m) valid (fine .0) (g, a, f)
 
     -- "after that a tick changes nothing", and no head works
     pub tick-done : AllEnded b m → (tickRow b hs m ≡ hs) × (tickAnswer b hs m ≡ accepted m) × (atWork b hs m ≡ 0)
@@ -166,17 +184,17 @@ module _ (b : List ℕ) (w : WellFormed b) where
     from-start : Valid R n t (start k)
     from-start = start-valid R n t (before-order b) (ticks-from b w) k
 
-    -- after j ticks: the rule's state, which the next tick accepts
+    -- after j ticks: the rule's state, which the next tick accepts: no tick of a run is refused
     pub record Going (j : ℕ) : Type 0 where
       pub says : stateOf (run b hs j .row) (run b hs j .set) ≡ after R n t j (start k)
       pub small : run b hs j .set < 2 ^ 32
-      pub accepts : acceptable b (run b hs j .row) (run b hs j .set) ≡ true
+      pub goes : Accepted (tickAnswer b (run b hs j .row) (run b hs j .set))
 
-    accepts-of : (l : List Head) (m j : ℕ) → stateOf l m ≡ after R n t j (start k) → m < 2 ^ 32 → acceptable b l m ≡ true
-    accepts-of l m j e small =
+    goes-on : (l : List Head) (m j : ℕ) → stateOf l m ≡ after R n t j (start k) → m < 2 ^ 32 → Accepted (tickAnswer b l m)
+    goes-on l m j e small =
         let v = after-valid R n t (before-order b) (ticks-from b w) (start k) from-start j in
         let long : length l ≡ k = ap (λ (x : State). length (x .heads)) e ∙ (after-long R n t (before-order b) (ticks-from b w) (start k) from-start j ∙ length-replicate k idle) in
-        ap₂ _&&_ (ap few long ∙ enough) (valid-is R n t goalLimit (stateOf l m) (λ g. has-wide m g small) .1 (subst (Valid R n t) (sym e) v))
+        tick-accepted l m small .1 (omega (arith, long, lo), omega (arith, long, hi), subst (Valid R n t) (sym e) v)
 
     -- the run of the operations is the run of the rule
     pub run-is : (j : ℕ) → Going j
@@ -188,19 +206,15 @@ module _ (b : List ℕ) (w : WellFormed b) where
         let q : hasGoal (values 0 (startAnswer b hs) .value) ≡ (λ g. false) = fun-ext (λ g. ap (λ (m : ℕ). hasGoal m g) es ∙ goal-none g) in
         let e : stateOf (startRow b hs) (values 0 (startAnswer b hs) .value) ≡ start k = λ i. record { heads = er i; ended = q i } in
         let small : values 0 (startAnswer b hs) .value < 2 ^ 32 = omega (arith, es) in
-        record { says = e; small = small; accepts = accepts-of (startRow b hs) (values 0 (startAnswer b hs) .value) 0 e small }
+        record { says = e; small = small; goes = goes-on (startRow b hs) (values 0 (startAnswer b hs) .value) 0 e small }
     run-is (suc j) =
         let g = run-is j in
         let s = run b hs j in
-        let r = tick-rule (s .row) (s .set) (g .small) (g .accepts) in
+        let r = tick-rule (s .row) (s .set) (g .small) (g .goes) in
         let v : values 0 (tickAnswer b (s .row) (s .set)) .value ≡ r .0 = ap (λ u. values 0 u .value) (r .1) in
         let e = ap (stateOf (tickRow b (s .row) (s .set))) v ∙ (r .3 ∙ ap (tick R n t) (g .says)) in
         let small : values 0 (tickAnswer b (s .row) (s .set)) .value < 2 ^ 32 = subst (λ (x : ℕ). x < 2 ^ 32) (sym v) (r .2) in
-        record { says = e; small = small; accepts = accepts-of (tickRow b (s .row) (s .set)) (values 0 (tickAnswer b (s .row) (s .set)) .value) (suc j) e small }
-
-    -- no tick of a run is refused
-    pub run-goes : (j : ℕ) → Accepted (tickAnswer b (run b hs j .row) (run b hs j .set))
-    run-goes j = let g = run-is j in subst Accepted (sym (answer-is (run b hs j .row) (run b hs j .set) (g .small) (g .accepts))) tt
+        record { says = e; small = small; goes = goes-on (tickRow b (s .row) (s .set)) (values 0 (tickAnswer b (s .row) (s .set)) .value) (suc j) e small }
 
     run-work : (j : ℕ) → runWork b hs j ≡ working R n t (after R n t j (start k))
     unfolding atWork
@@ -231,6 +245,44 @@ module _ (b : List ℕ) (w : WellFormed b) where
     run-ends =
         let r = last-working R n t (before-order b) (ticks-from b w) (start k) from-start (omega (arith, length-replicate k idle, lo)) in
         (r .0, last-from (r .0) (r .1), λ g a. ap (λ (x : State). x .ended g) (run-is (r .0) .says) ∙ r .2 g a)
+
+    -- a tick in which a head works, and after which none does, is that one
+    pub run-last : (j : ℕ) → 1 ≤ runWork b hs j → ((i : ℕ) → j < i → runWork b hs i ≡ 0) → LastTick b hs (suc j)
+    run-last j works rests =
+        let r = run-ends in
+        let T = r .0 in
+        subst (LastTick b hs)
+        (⊎-elim (λ e. absurd (omega (arith, works, r .1 .rests j (leb-true T j e))))
+        (λ e.
+        let l : j < T = leb-false T j e in
+        ⊎-elim (λ u. omega (arith, l, leb-true T (suc j) u))
+        (λ u. absurd (omega (arith, r .1 .works (suc j) (leb-false T (suc j) u), rests (suc j) (omega arith)))) (test (leb T (suc j))))
+        (test (leb T j)))
+        (r .1)
+
+-- ---- refusals of the record, and what a refusal leaves
+module _ (b : List ℕ) (hs : List Head) where
+  -- "20, after the record's refusals"
+  pub record-first : (m : ℕ) (r : Refusal) → reading b ≡ Refused r → (startAnswer b hs ≡ refused (r .number) (r .place)) × (tickAnswer b hs m ≡ refused (r .number) (r .place))
+  unfolding startAnswer startOutcome tickAnswer tickOutcome readThen
+  record-first m r e =
+      (
+        ap (λ x. setOfState (started x (onlyIf (few (length hs)) 20 0 (accepted (start (length hs)))))) e,
+        ap (λ x. setOfState (started x (onlyIf (acceptable b hs m) 20 0 (accepted (tick (before b) (goalCount b) (ticksAt b) (stateOf hs m)))))) e
+      )
+
+  kept : (u : Outcome State) (k p : ℕ) → setOfState u ≡ refused k p → rowAfter u hs ≡ hs
+  kept (refused k′ p′) k p e = refl
+  kept (accepted s) k p e = absurd (subst Accepted e tt)
+
+  -- "with lent buffers unchanged": the row stays, and the set is 0
+  pub start-keeps : (k p : ℕ) → startAnswer b hs ≡ refused k p → (startRow b hs ≡ hs) × (values 0 (startAnswer b hs) .value ≡ 0)
+  unfolding startAnswer startRow
+  start-keeps k p e = (kept (startOutcome b hs) k p e, ap (λ (u : Outcome ℕ). values 0 u .value) e)
+
+  pub tick-keeps : (m k p : ℕ) → tickAnswer b hs m ≡ refused k p → (tickRow b hs m ≡ hs) × (values 0 (tickAnswer b hs m) .value ≡ 0)
+  unfolding tickAnswer tickRow
+  tick-keeps m k p e = (kept (tickOutcome b hs m) k p e, ap (λ (u : Outcome ℕ). values 0 u .value) e)
 
 -- C is the weight of the heaviest chain of the record's order: no chain weighs more, and some chain weighs it
 pub chain-heaviest : (b : List ℕ) → IsHeaviest (before b) (goalCount b) (ticksAt b) (heaviestChain b)

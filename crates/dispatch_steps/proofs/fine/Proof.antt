@@ -1,15 +1,16 @@
 use mathlib.Core.Path.{sym, _∙_}
 use native.Mathlib.Omega.{arith}
+use Rattle.sets.specs.Sets.{goalLimit}
 use Rattle.dispatch_steps.proofs.Masks.{fine-idle, fine-wide, fine-shut, fine-none-left, fine-left}
 use borrow.Author.Needs.{needs}
 use Rattle.dispatch_steps.proofs.fine.Statement.{statement}
 use Rattle.dispatch_steps.proofs.fine.Tie as tie
 
 returns : tie.Need-returns
-returns c = let a = c .before .before .before .args in fine-idle (a .h) (a .b) (a .t3) (c .before .if1 .taken)
+returns c = let a = c .before .before .before .args in fine-idle goalLimit (a .h) (a .b) (a .t3) (c .before .if1 .taken)
 
 returns-2 : tie.Need-returns-2
-returns-2 c = let a = c .before .before .before .before .args in fine-wide (a .h) (a .b) (a .t3) (c .before .before .if1 .left) (omega arith)
+returns-2 c = let a = c .before .before .before .before .args in fine-wide goalLimit (a .h) (a .b) (a .t3) (c .before .before .if1 .left) (omega arith)
 
 holds-requires : tie.Need-holds-requires
 holds-requires c κs = search needs
@@ -30,20 +31,20 @@ returns-3 : tie.Need-returns-3
 returns-3 c =
     let d = c .before .before in
     let a = d .before .before .before .before .before .before .before .before .args in
-    fine-none-left (a .h) (a .b) (a .t3) (d .before .before .before .before .before .before .if1 .left) (omega arith)
+    fine-none-left goalLimit (a .h) (a .b) (a .t3) (d .before .before .before .before .before .before .if1 .left) (omega arith)
     (sym (d .before .before .before .holds .ensures) ∙ d .if3 .taken) (omega arith)
 
 returns-4 : tie.Need-returns-4
 returns-4 c =
     let d = c .before .before .before in
     let a = d .before .before .before .before .before .before .before .before .args in
-    fine-left (a .h) (a .b) (a .t3) (d .before .before .before .before .before .before .if1 .left) (omega arith)
+    fine-left goalLimit (a .h) (a .b) (a .t3) (d .before .before .before .before .before .before .if1 .left) (omega arith)
     (sym (d .before .before .before .holds .ensures) ∙ d .if3 .taken) (c .before .if4 .left)
 
 returns-5 : tie.Need-returns-5
 returns-5 c =
     let a = c .before .before .before .before .before .before .before .before .args in
-    fine-shut (a .h) (a .b) (a .t3) (c .before .before .before .before .before .before .if1 .left) (omega arith)
+    fine-shut goalLimit (a .h) (a .b) (a .t3) (c .before .before .before .before .before .before .if1 .left) (omega arith)
     (sym (c .before .before .before .holds .ensures) ∙ c .if3 .left)
 
 pub fine-spec : {M : Type 1} → statement M

@@ -1,4 +1,5 @@
 use native.Mathlib.Omega.{arith}
+use Rattle.sets.specs.Sets.{goalLimit}
 use Rattle.dispatch_steps.proofs.Masks.{done-more, done-same}
 use borrow.Author.Needs.{needs}
 use Rattle.dispatch_steps.proofs.finished.Statement.{statement}
@@ -14,10 +15,10 @@ returns : tie.Need-returns
 returns c =
     let d = c .before .before .before in
     let a = d .before .args in
-    done-more (a .h) (a .done) (d .alone .result) (c .union32 .result) (omega arith) (d .alone .ensures) (c .union32 .ensures)
+    done-more (a .h) goalLimit (a .done) (d .alone .result) (c .union32 .result) (omega arith) (d .alone .ensures) (c .union32 .ensures)
 
 returns-2 : tie.Need-returns-2
-returns-2 c = let d = c .before .before in let a = d .before .args in done-same (a .h) (a .done) (d .alone .result) (omega arith)
+returns-2 c = let d = c .before .before in let a = d .before .args in done-same (a .h) goalLimit (a .done) (d .alone .result) (omega arith)
 
 pub finished-spec : {M : Type 1} → statement M
 finished-spec = tie.close (tie.spec alone-requires union32-requires returns returns-2)

@@ -1,3 +1,4 @@
+use Rattle.sets.specs.Sets.{goalLimit}
 use Rattle.dispatch_steps.proofs.Masks.{gone}
 use borrow.Author.Needs.{needs}
 use Rattle.dispatch_steps.proofs.go.Statement.{statement}
@@ -25,7 +26,7 @@ returns c =
     let f = e .before in
     let g = f .before in
     let a = g .before .args in
-    gone (a .h) (a .b) (a .p) (g .taken .result) (f .alone .result) (e .without32 .result) (d .finished .result) (c .work .result) (g .taken .ensures) (f .alone .ensures) (e .without32 .ensures) (d .finished .ensures) (c .work .ensures)
+    gone goalLimit (a .h) (a .b) (a .p) (g .taken .result) (f .alone .result) (e .without32 .result) (d .finished .result) (c .work .result) (g .taken .ensures) (f .alone .ensures) (e .without32 .ensures) (d .finished .ensures) (c .work .ensures)
 
 pub go-spec : {M : Type 1} → statement M
 go-spec = tie.close (tie.spec taken-requires alone-requires without32-requires finished-requires work-requires returns)

@@ -1,3 +1,4 @@
+use Rattle.sets.specs.Sets.{goalLimit}
 use Rattle.dispatch_steps.proofs.Masks.{looked}
 use borrow.Author.Needs.{needs}
 use Rattle.dispatch_steps.proofs.look.Statement.{statement}
@@ -21,7 +22,7 @@ returns c =
     let e = d .before in
     let f = e .before in
     let a = f .before .args in
-    looked (a .h) (a .b) (a .p) (f .fine .result) (e .kept .result) (d .alone .result) (c .without32 .result) (f .fine .ensures) (e .kept .ensures) (d .alone .ensures) (c .without32 .ensures)
+    looked goalLimit (a .h) (a .b) (a .p) (f .fine .result) (e .kept .result) (d .alone .result) (c .without32 .result) (f .fine .ensures) (e .kept .ensures) (d .alone .ensures) (c .without32 .ensures)
 
 pub look-spec : {M : Type 1} → statement M
 look-spec = tie.close (tie.spec fine-requires kept-requires alone-requires without32-requires returns)
