@@ -201,8 +201,8 @@ uint64_t lfj_listed(const uint8_t *record, size_t n, uint64_t rows[LFJ_VARIABLE_
  *         ticks++;
  *     }
  *
- * No tick of a run is refused. Any other call may be: it gives back no set then, and what
- * lfj_ended makes of its answer must not be stored over the caller's.
+ * No tick of a run is refused. Any other call may be: its set is 0 then, as lfj_ended gives it,
+ * and must not be stored over the caller's. Bits 0 to 31 of the answer are then the place.
  */
 
 /*

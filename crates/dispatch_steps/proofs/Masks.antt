@@ -20,7 +20,7 @@ use Rattle.dispatch_rule.specs.Rule.{idle, worked}
 use Rattle.dispatch_steps.specs.declared.Board.{Board}
 use Rattle.dispatch_steps.specs.declared.Plan.{Plan}
 use Rattle.dispatch_steps.specs.declared.Stepped.{Stepped}
-use Rattle.dispatch_steps.specs.Steps.{looking, going, resting, idling, alone, ofGoal, isFine, lookOf, taking, finishing, goOf, restOf, stepOf, secondOf}
+use Rattle.dispatch_steps.specs.Steps.{looking, going, resting, idling, alone, ofGoal, isFine, lookOf, taking, finishing, takeOf, workOf, actOf, goOf, restOf, stepOf, secondOf}
 
 -- ---- places that count from 0
 less-one : (i : ℕ) → suc i - 1 ≡ i
@@ -111,13 +111,17 @@ module _ (w : ℕ) (h : Head) (b : Board) (p : Plan) where
   pub taking-new : (g : ℕ) → h .goal ≡ 0 → g ≡ lowest-free → (g ≡ 0 → ⊥) → _≡_ {A = Head} (record { goal = g; left = getD (p .ticks) (g - 1) 0 }) (taking w h b p)
   taking-new g e f z = ap (λ (x : ℕ). record { goal = g; left = x }) (of-goal (p .ticks) g (omega arith)) ∙ (ap fresh f ∙ sym (taking-idle e))
 
-  pub gone : (k : Head) (one free done : ℕ) (head : Head) → k ≡ taking w h b p → one ≡ alone w (k .goal) → free ≡ without (b .free) one → done ≡ finishing w k (b .done) → head ≡ worked k
-      → _≡_ {A = Stepped} (record { head = head; board = record { phase = b .phase; free = free; done = done } }) (goOf w h b p)
-  gone k one free done head e q r s t =
+  pub took : (k : Head) (one free : ℕ) → k ≡ taking w h b p → one ≡ alone w (k .goal) → free ≡ without (b .free) one
+      → _≡_ {A = Stepped} (record { head = k; board = record { phase = b .phase; free = free; done = b .done } }) (takeOf w h b p)
+  took k one free e q r =
       let r′ : free ≡ without (b .free) (alone w (taking w h b p .goal)) = r ∙ ap (without (b .free)) (q ∙ ap (λ (x : Head). alone w (x .goal)) e) in
-      let s′ : done ≡ finishing w (taking w h b p) (b .done) = s ∙ ap (λ x. finishing w x (b .done)) e in
-      let t′ : head ≡ worked (taking w h b p) = t ∙ ap worked e in
-      λ i. record { head = t′ i; board = record { phase = b .phase; free = r′ i; done = s′ i } }
+      λ i. record { head = e i; board = record { phase = b .phase; free = r′ i; done = b .done } }
+
+  pub act-takes : (what : ℕ) → what ≡ 0 → actOf w what h b p ≡ takeOf w h b p
+  act-takes what e = ap (λ x. cond x (takeOf w h b p) (workOf w h b)) (eq-eqb what 0 e)
+
+  pub act-works : (what : ℕ) → (what ≡ 0 → ⊥) → actOf w what h b p ≡ workOf w h b
+  act-works what e = ap (λ x. cond x (takeOf w h b p) (workOf w h b)) (ne-eqb what 0 e)
 
 -- ---- which turn it is
 module _ (h : Head) (b : Board) (p : Plan) where

@@ -64,17 +64,20 @@ taking w h b p =
 abbrev pub finishing : ℕ → Head → ℕ → ℕ
 finishing w h done = cond (eqb (h .left - 1) 0) (union done (alone w (h .goal))) done
 
+abbrev pub takeOf : ℕ → Head → Board → Plan → Stepped
+takeOf w h b p =
+    let k = taking w h b p in
+    record { head = k; board = record { phase = b .phase; free = without (b .free) (alone w (k .goal)); done = b .done } }
+
+abbrev pub workOf : ℕ → Head → Board → Stepped
+workOf w h b = record { head = worked h; board = record { phase = b .phase; free = b .free; done = finishing w h (b .done) } }
+
+-- one of the two, and both in the rule's order: "takes the lowest goal, .. then .. works one tick"
+abbrev pub actOf : ℕ → ℕ → Head → Board → Plan → Stepped
+actOf w what h b p = cond (eqb what 0) (takeOf w h b p) (workOf w h b)
+
 abbrev pub goOf : ℕ → Head → Board → Plan → Stepped
-goOf w h b p =
-    record {
-      head = worked (taking w h b p);
-      board =
-          record {
-            phase = b .phase;
-            free = without (b .free) (alone w (taking w h b p .goal));
-            done = finishing w (taking w h b p) (b .done);
-          };
-    }
+goOf w h b p = let s = takeOf w h b p in workOf w (s .head) (s .board)
 
 -- ---- a head rests, or is made idle
 abbrev pub restOf : Head → ℕ → Head

@@ -21,6 +21,11 @@ pub const REST: u32 = 2;
 
 pub const IDLE: u32 = 3;
 
+// What a head that goes does, one after the other.
+const TAKE: u32 = 0;
+
+const WORK: u32 = 1;
+
 // What a tick goes by and no turn changes: how many ticks each goal takes, goal g at place g - 1.
 pub struct Plan {
     pub ticks: [u32; Graph::MAX],
@@ -142,7 +147,7 @@ fn taken(h: Head, b: Board, p: Plan) -> Head
 }
 
 // The head after one tick of work: at 0 left it is idle.
-fn work(h: Head) -> Head
+fn worked(h: Head) -> Head
     ensures { λ r. ⌜ r ≡ worked h ⌝ }
 {
     if h.left <= 1 {
@@ -163,19 +168,52 @@ fn finished(h: Head, done: u32) -> u32
     done
 }
 
-// One head takes a goal, if it is idle, and works.
+// A head takes the lowest free goal, if it is idle. Here and in `work` the board is made field by field: a copy is loaded in wider words than it was stored in, which
+// stalls the next turn.
+fn take(h: Head, b: Board, p: Plan) -> Stepped
+    ensures { λ r. ⌜ r ≡ S.takeOf goalLimit h b p ⌝ }
+{
+    let head = taken(h, b, p);
+    let one = alone(head.goal);
+    let others = sets::without32(b.free, one);
+    let board = Board {
+        phase: b.phase,
+        free: others,
+        done: b.done,
+    };
+    Stepped { head, board }
+}
+
+// A head works one tick, and a goal that it ends is marked.
+fn work(h: Head, b: Board) -> Stepped
+    ensures { λ r. ⌜ r ≡ S.workOf goalLimit h b ⌝ }
+{
+    let done = finished(h, b.done);
+    let head = worked(h);
+    let board = Board {
+        phase: b.phase,
+        free: b.free,
+        done,
+    };
+    Stepped { head, board }
+}
+
+// One of the two acts of a head in a tick.
+fn act(what: u32, h: Head, b: Board, p: Plan) -> Stepped
+    ensures { λ r. ⌜ r ≡ S.actOf goalLimit what h b p ⌝ }
+{
+    if what == TAKE {
+        return take(h, b, p);
+    }
+    work(h, b)
+}
+
+// One head takes a goal, if it is idle, and then works.
 fn go(h: Head, b: Board, p: Plan) -> Stepped
     ensures { λ r. ⌜ r ≡ S.goOf goalLimit h b p ⌝ }
 {
-    let k = taken(h, b, p);
-    let one = alone(k.goal);
-    let others = sets::without32(b.free, one);
-    let done = finished(k, b.done);
-    let head = work(k);
-    let mut board = b;
-    board.free = others;
-    board.done = done;
-    Stepped { head, board }
+    let first = act(TAKE, h, b, p);
+    act(WORK, first.head, first.board, p)
 }
 
 // A head that rests, or is made idle.

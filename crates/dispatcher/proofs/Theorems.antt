@@ -265,11 +265,10 @@ module _ (b : List ℕ) (hs : List Head) where
   -- "20, after the record's refusals"
   pub record-first : (m : ℕ) (r : Refusal) → reading b ≡ Refused r → (startAnswer b hs ≡ refused (r .number) (r .place)) × (tickAnswer b hs m ≡ refused (r .number) (r .place))
   unfolding startAnswer startOutcome tickAnswer tickOutcome readThen
-  record-first m r e =
-      (
-        ap (λ x. setOfState (started x (onlyIf (few (length hs)) 20 0 (accepted (start (length hs)))))) e,
-        ap (λ x. setOfState (started x (onlyIf (acceptable b hs m) 20 0 (accepted (tick (before b) (goalCount b) (ticksAt b) (stateOf hs m)))))) e
-      )
+  record-first m r e = (
+    ap (λ x. setOfState (started x (onlyIf (few (length hs)) 20 0 (accepted (start (length hs)))))) e,
+    ap (λ x. setOfState (started x (onlyIf (acceptable b hs m) 20 0 (accepted (tick (before b) (goalCount b) (ticksAt b) (stateOf hs m)))))) e,
+  )
 
   kept : (u : Outcome State) (k p : ℕ) → setOfState u ≡ refused k p → rowAfter u hs ≡ hs
   kept (refused k′ p′) k p e = refl

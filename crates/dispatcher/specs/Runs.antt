@@ -38,7 +38,7 @@ runWork b hs j = atWork b (run b hs j .row) (run b hs j .set)
 abbrev pub AllEnded : List ℕ → ℕ → Type 0
 AllEnded b m = (g : ℕ) → Goals (goalCount b) g → hasGoal m g ≡ true
 
--- "last working tick T": some head works in each tick up to T, and none in a later one
+-- "last working tick T": some head works in each tick up to T, and none in a later one. A tick with work after which none has any is such a T (`run-last`).
 pub record LastTick (b : List ℕ) (hs : List Head) (T : ℕ) : Type 0 where
   pub works : (j : ℕ) → j < T → 1 ≤ runWork b hs j
   pub rests : (j : ℕ) → T ≤ j → runWork b hs j ≡ 0

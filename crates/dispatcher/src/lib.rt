@@ -89,7 +89,7 @@ fn start_open(heads: usize) -> Opening
 }
 
 // Of an accepted record, a tick: the heads are looked at. The goals that have ended are judged here, and which goals wait for one that has not ended. Direct waits
-// tell both: where every ended goal's have ended, so have those that a chain of waits leads from.
+// tell both: where every goal that an ended goal waits for has ended, so has every goal from which a chain of waits leads to it.
 fn tick_open(bytes: &[u8], heads: usize, ended: u32) -> Opening
     requires { ⌜ WellFormed (now bytes) ⌝ }
     ensures { λ o. ⌜ o ≡ O.tickOpen (now (bytes .entry)) heads ended ⌝ }

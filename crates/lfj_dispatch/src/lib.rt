@@ -1,7 +1,7 @@
 // The dispatcher (02, request 4), a product of its own over the annotator: its two operations, over the row of heads that the caller lends. Neither has a precondition.
 //
 // `bytes` is the record, which stays as it was; `ended` the set of goals that have ended, goal g at bit g - 1, as the call before gave it back. Reading the record starts both, so
-// its refusals, 1 to 11, 18 and 19, come first, then 20. With any refusal the row is as it was, and there is no set: a caller keeps its own.
+// its refusals, 1 to 11, 18 and 19, come first, then 20. With any refusal the row is as it was and the set is 0, bits 0 to 31 of the word being the place: a caller keeps its own.
 //
 // operation                      accepted, it answers                           and leaves the row                 refuses      promised by dispatcher: Ticks
 // -----------------------------  ---------------------------------------------  ---------------------------------  -----------  -------------------------------

@@ -10,7 +10,7 @@ use Rattle.expression_grammar.specs.Check.{Verdict, same, differs}
 abbrev pub version : ℕ
 version = 10400
 
--- The number at bits 56 to 63, the place at bits 0 to 31: no place has more bits, whatever the record's length, and no length (lfj/specs/Fits.antt).
+-- The number at bits 56 to 63, the place at bits 0 to 31: no place has more bits, whatever the record's length, and no length (lfj/specs/Fits.antt, dispatcher/specs/Runs.antt).
 unfoldable pub refusalWord : ℕ → ℕ → ℕ
 refusalWord number place = number * 2 ^ 56 + place % 2 ^ 32
 

@@ -82,7 +82,7 @@ pub fn start(record: &[u8], heads: &mut [Head]) -> Result<u32, Refusal> {
 /// Refusal 20 for a row of 0 or more than [`HEADS_LIMIT`] heads; a head's goal above the goal
 /// count, on two heads or ended; ticks left of 0 or above the goal's on a busy head, or not 0 on
 /// an idle one; an ended goal above the goal count; or a busy or ended goal with a predecessor
-/// that has not ended. A refused call gives back no set and leaves the row as it was.
+/// that has not ended. A refused call leaves the row as it was, and has no set: the caller's still holds.
 ///
 /// ```
 /// use lfj::dispatch::{Head, tick};

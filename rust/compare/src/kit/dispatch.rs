@@ -322,6 +322,11 @@ fn tick_clauses(lines: &mut Lines) {
         lines.accept(&many, others, &[IDLE, (goal, 1)], u32::MAX, &idle(2));
         lines.tick_of(&many, 0, &[(goal, 2), IDLE, IDLE]);
     }
+    lines.note("each-variable", "two goals that share one of 64 variables: the second waits");
+    for variable in 0..64 {
+        let two = Parts::over(64, &[1 << variable; 2]).lasting(&[2; 2]);
+        lines.accept(&two, 0, &idle(2), 0, &[(1, 1), IDLE]);
+    }
     lines.note("each-wait", "each goal that waits for goal 1, and each for which goal 32 waits");
     for goal in 2..=31 {
         let first = among(&[1, goal], &[(1, goal)]).lasting(&[2; 32]);
