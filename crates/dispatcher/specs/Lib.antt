@@ -1,3 +1,4 @@
 pub mod Ticks
 pub mod Openings
 pub mod Runs
+mod Examples
