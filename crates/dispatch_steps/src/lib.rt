@@ -106,8 +106,8 @@ fn fine(h: Head, b: Board, p: Plan) -> bool
     false
 }
 
-// The phase stays, or something is refused.
-fn kept(ok: bool, phase: u32) -> u32
+// The phase, or the heads rest since something is refused.
+pub fn kept(ok: bool, phase: u32) -> u32
     ensures { λ r. ⌜ r ≡ cond ok phase S.resting ⌝ }
 {
     if ok {

@@ -10,9 +10,7 @@ use graph::Graph;
 use record_rules::Reading;
 use record_rules::Refusal;
 ghost use mathlib.Core.Path.{_≡_};
-ghost use mathlib.Core.Bool.{cond};
 ghost use Rattle.record.specs.WellFormed.{WellFormed};
-ghost use Rattle.dispatch_steps.specs.Steps as S;
 ghost use Rattle.dispatcher.specs.Ticks as T;
 ghost use Rattle.dispatcher.specs.Openings as O;
 
@@ -39,16 +37,6 @@ fn bad_row() -> Refusal
     }
 }
 
-// The phase where nothing is refused, or the heads rest.
-fn unless_refused(ok: bool, phase: u32) -> u32
-    ensures { λ r. ⌜ r ≡ cond ok phase S.resting ⌝ }
-{
-    if ok {
-        return phase;
-    }
-    REST
-}
-
 // Of a refused record: nothing is done with the heads.
 fn shut(r: Refusal) -> Opening
     ensures { λ o. ⌜ o ≡ O.shut r ⌝ }
@@ -73,7 +61,7 @@ fn start_open(heads: usize) -> Opening
 {
     let ticks = [0u32; Graph::MAX];
     let ok = few(heads);
-    let phase = unless_refused(ok, IDLE);
+    let phase = dispatch_steps::kept(ok, IDLE);
     let board = Board {
         phase,
         free: 0,
@@ -101,7 +89,7 @@ fn tick_open(bytes: &[u8], heads: usize, ended: u32) -> Opening
     let ready = sets::without32(all, waiting);
     let known = sets::subset32(ended, ready);
     let ok = few(heads) & known;
-    let phase = unless_refused(ok, LOOK);
+    let phase = dispatch_steps::kept(ok, LOOK);
     let free = sets::without32(left, waiting);
     let board = Board {
         phase,

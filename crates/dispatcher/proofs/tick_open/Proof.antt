@@ -28,8 +28,8 @@ subset32-requires c κs = search needs
 few-requires : tie.Need-few-requires
 few-requires c κs = search needs
 
-unless-refused-requires : tie.Need-unless-refused-requires
-unless-refused-requires c κs = search needs
+kept-requires : tie.Need-kept-requires
+kept-requires c κs = search needs
 
 without32-requires-3 : tie.Need-without32-requires-3
 without32-requires-3 c κs = search needs
@@ -50,7 +50,7 @@ returns c =
       known-is = c .before .before .before .before .before .subset32 .ensures;
       enough-is = c .before .before .before .before .few .ensures;
       ok-is = refl;
-      phase-is = c .before .before .before .unless-refused .ensures;
+      phase-is = c .before .before .before .kept .ensures;
       free-is = c .before .before .without323 .ensures;
     })
     (ticks-of _ (d .decode .ensures)) (c .bad-row .ensures)
@@ -66,7 +66,7 @@ tick-open-spec =
     without32-requires-2
     subset32-requires
     few-requires
-    unless-refused-requires
+    kept-requires
     without32-requires-3
     bad-row-requires
     returns)
