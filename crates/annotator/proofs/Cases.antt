@@ -19,6 +19,7 @@ use Rattle.record_rules.specs.Outcome.{Outcome, refused, accepted, readThen, si
 use Rattle.record_rules.proofs.Outcomes.{told-apart, one-value, one-refusal, number-zero, All, all-refused, all-read, all-only, all-next, all-size}
 use Rattle.record_fields.specs.Fields.{goalCount}
 use Rattle.record.proofs.WellFormed.{fine-well-formed}
+use Rattle.order.specs.Order.{passCount}
 use Rattle.record.proofs.Refusals.{refusal-number}
 use Rattle.expression.specs.Expr.{Expr}
 use Rattle.expression.specs.Form.{form}
@@ -49,7 +50,7 @@ use Rattle.record_text.specs.declared.TextAnswer.the-variants.{At, NoText}
 use Rattle.annotator.specs.declared.CheckAnswer.{CheckAnswer}
 use Rattle.annotator.specs.declared.CheckAnswer.the-variants.{Verdict, Rejected}
 use Rattle.record_text.specs.Texts.{goalText, textOutcome, noSpan}
-use Rattle.annotator.specs.Answers.{read, readOutcome, check, checkOutcome}
+use Rattle.annotator.specs.Answers.{read, readOutcome, passes, check, checkOutcome}
 use Rattle.record.specs.Limits.{OfReading}
 use Rattle.annotator.specs.Cases.{OfText, OfCheck, OfForm, OfLength, OfMel, Refuses, Numbers, OneAnswer}
 
@@ -110,6 +111,10 @@ module _ (b : List ℕ) where
   unfolding read
   read-turned = started OfReading b (accepted (goalCount b)) (λ k h. h) tt
 
+  passes-turned : Turned OfReading (passes b)
+  unfolding passes
+  passes-turned = started OfReading b (accepted (passCount b)) (λ k h. h) tt
+
   goal-turned : (g : ℕ) → Turned OfText (goalText b g)
   unfolding goalText
   goal-turned g =
@@ -140,6 +145,7 @@ module _ (b : List ℕ) where
   refuses =
       record {
         of-read = λ k p. all-refused _ _ read-turned;
+        of-passes = λ k p. all-refused _ _ passes-turned;
         of-text = λ g k p. all-refused _ _ (goal-turned g);
         of-check = λ t k p. all-refused _ _ (check-turned t);
         of-form = λ buf k p. all-refused _ _ (answer-turned buf);
@@ -166,6 +172,7 @@ module _ (b : List ℕ) where
   numbers =
       record {
         of-read = number-zero 0 (read b) (λ k p e. reading-some k (refuses .of-read k p e));
+        of-passes = number-zero 0 (passes b) (λ k p e. reading-some k (refuses .of-passes k p e));
         of-text = λ g. number-zero noSpan (goalText b g) (λ k p e. text-some k (refuses .of-text g k p e));
         of-check = λ t. number-zero same (check b t) (λ k p e. check-some k (refuses .of-check t k p e));
         of-form = λ buf. number-zero 0 (F.formAnswer b buf) (λ k p e. form-some k (refuses .of-form buf k p e));

@@ -28,6 +28,13 @@ readOutcome (Refused r) = refused (r .number) (r .place)
 unfoldable pub orderGraph : List ℕ → Graph
 orderGraph b = values (edgeless 0) (readThen b (accepted (Order.order b))) .value
 
+-- 02, 5: "Beside it the closure gives the number of passes"; of a refused record 0
+unfoldable pub passes : List ℕ → Outcome ℕ
+passes b = readThen b (accepted (Order.passCount b))
+
+unfoldable pub orderPasses : List ℕ → ℕ
+orderPasses b = values 0 (passes b) .value
+
 -- ---- Check of an expression: "same", or "differs" with the first i, then j.
 unfoldable pub check : List ℕ → List ℕ → Outcome Check.Verdict
 check b t = readThen b (checked (goalCount b) (before b) t)

@@ -16,7 +16,7 @@ use Rattle.annotator.specs.declared.ReadAnswer.{ReadAnswer}
 use Rattle.record_text.specs.declared.TextAnswer.{TextAnswer}
 use Rattle.annotator.specs.declared.CheckAnswer.{CheckAnswer}
 use Rattle.record_text.specs.Texts.{goalText, textOutcome, noSpan}
-use Rattle.annotator.specs.Answers.{read, readOutcome, check, checkOutcome}
+use Rattle.annotator.specs.Answers.{read, readOutcome, passes, check, checkOutcome}
 
 -- ---- 01, "What each operation turns down": the refusals of reading, which starts every operation, and those of its own.
 abbrev pub OfText : ℕ → Type 0
@@ -36,6 +36,7 @@ OfMel k = OfReading k ⊎ (k ≡ 12)
 
 pub record Refuses (b : List ℕ) : Type 0 where
   pub of-read : (k p : ℕ) → read b ≡ refused k p → OfReading k
+  pub of-passes : (k p : ℕ) → passes b ≡ refused k p → OfReading k
   pub of-text : (g k p : ℕ) → goalText b g ≡ refused k p → OfText k
   pub of-check : (t : List ℕ) (k p : ℕ) → check b t ≡ refused k p → OfCheck k
   pub of-form : (buf : List ℕ) (k p : ℕ) → F.formAnswer b buf ≡ refused k p → OfForm k
@@ -45,6 +46,7 @@ pub record Refuses (b : List ℕ) : Type 0 where
 -- ---- None of these is 0: an answer's number is 0 exactly if it is accepted. 13 is answered exactly with its four goals.
 pub record Numbers (b : List ℕ) : Type 0 where
   pub of-read : (values 0 (read b) .number ≡ 0) ↔ Accepted (read b)
+  pub of-passes : (values 0 (passes b) .number ≡ 0) ↔ Accepted (passes b)
   pub of-text : (g : ℕ) → (values noSpan (goalText b g) .number ≡ 0) ↔ Accepted (goalText b g)
   pub of-check : (t : List ℕ) → (values same (check b t) .number ≡ 0) ↔ Accepted (check b t)
   pub of-form : (buf : List ℕ) → (values 0 (F.formAnswer b buf) .number ≡ 0) ↔ Accepted (F.formAnswer b buf)

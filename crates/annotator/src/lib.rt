@@ -8,7 +8,8 @@
 // operation               accepted, it answers                                                 refuses              promised by
 // ----------------------  -------------------------------------------------------------------  -------------------  -----------------------------------------------
 // read(bytes)             the goal count n                                                     reading              Answers.read
-// order(bytes)            n and the closed graph: row g - 1 has the goals that g is before     reading              Answers.read, Answers.orderGraph
+// order(bytes)            n and the closed graph: row g - 1 has the goals that g is before;    reading              Answers.read, Answers.orderGraph
+//                         the number of passes in which it was closed                                               Answers.orderPasses
 // form(bytes, out)        the length of the house form's text, which fills the start of `out`  reading, 13, 12      form: Form.formAnswer, shown, formBuffer
 // form_length(bytes)      the length of the house form's text, exactly                         reading, 13          form: Form.formLength, shown
 // mel(bytes, out)         the length of the MEL annotation, which fills the start of `out`     reading, 12          mel: Annotation.melAnswer, melBuffer
@@ -17,7 +18,7 @@
 // check(bytes, text)      "same", or "differs" with the first i, then j                        reading, 15, 16, 17  Answers.check; expression_grammar: Check
 //
 // The definitions are those of specs/ here, or of the crate named before a colon. Rows past n are empty, and a refused record's graph is the empty one of
-// 0 goals. Behind its text `out` is kept. With any refusal, which find_text names, the part is the empty one at the record's start. For i and j just one
+// 0 goals, with 0 passes. Behind its text `out` is kept. With any refusal, which find_text names, the part is the empty one at the record's start. For i and j just one
 // of the two orders, the record's and the text's, has i before j.
 use graph::Graph;
 use order_compare::Verdict;
@@ -41,10 +42,11 @@ pub enum ReadAnswer {
     Refused(Refusal),
 }
 
-// The order: beside the reading's answer the closed graph; of a refused record the graph without goals.
+// The order: beside the reading's answer the closed graph and the number of passes that closing it took; of a refused record the graph without goals, and 0.
 pub struct OrderAnswer {
     pub reading: ReadAnswer,
     pub graph: Graph,
+    pub passes: u32,
 }
 
 // The check of an expression: a verdict, or a refusal.
@@ -67,18 +69,29 @@ pub fn read(bytes: &[u8]) -> ReadAnswer
 pub fn order(bytes: &[u8]) -> OrderAnswer
     ensures { λ r. ⌜ W.readOutcome (r .reading) ≡ W.read (now (bytes .entry)) ⌝ }
     ensures { λ r. ⌜ r .graph ≡ W.orderGraph (now (bytes .entry)) ⌝ }
+    ensures { λ r. ⌜ r .passes ≡ W.orderPasses (now (bytes .entry)) ⌝ }
 {
     match record::read(bytes) {
         Reading::Fine => {
             let c = clause::decode(bytes);
-            let graph = order::order_of(c.n, &c.sets, &c.grounds, &c.listed);
+            let closed = order::closure_of(c.n, &c.sets, &c.grounds, &c.listed);
             let reading = ReadAnswer::Accepted(c.n);
-            OrderAnswer { reading, graph }
+            let graph = closed.graph;
+            let passes = closed.passes;
+            OrderAnswer {
+                reading,
+                graph,
+                passes,
+            }
         }
         Reading::Refused(r) => {
             let reading = ReadAnswer::Refused(r);
             let graph = Graph::empty(0);
-            OrderAnswer { reading, graph }
+            OrderAnswer {
+                reading,
+                graph,
+                passes: 0,
+            }
         }
     }
 }

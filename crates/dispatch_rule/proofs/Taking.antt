@@ -13,7 +13,8 @@ use Rattle.dispatch_rule.specs.declared.Head.{Head}
 use Rattle.dispatch_rule.specs.Rule.{idle, count, ready, next, offer, taken}
 use Rattle.dispatch_rule.specs.Validity.{In, Busy}
 use Rattle.logic.proofs.Bools.{test, by-test, and-true, not-true, or-false}
-use Rattle.schedule.proofs.Range.{Lowest, Nothing, lowest-is, same, other}
+use Rattle.logic.proofs.Lowest.{Lowest, Nothing, lowest-is}
+use Rattle.schedule.proofs.Range.{same, other}
 
 -- The ticks left of goal g on the row, and d if it is on none.
 abbrev pub leftOn : List Head → ℕ → ℕ → ℕ
@@ -62,9 +63,9 @@ module _ (R : ℕ → ℕ → Bool) (n : ℕ) (t : ℕ → ℕ) (E : ℕ → Boo
       pick p (inl l) =
           let u = and-true (not (E p) && not (B p)) (ready R n E p) (l .passes) in
           let v = and-true (not (E p)) (not (B p)) (u .0) in
-          let z : eqb p 0 ≡ false = ne-eqb p 0 (λ q. omega (arith, l .goals .0)) in
+          let z : eqb p 0 ≡ false = ne-eqb p 0 (λ q. omega (arith, l .inside .0)) in
           subst (λ b. Offered B idle (record { goal = p; left = cond b 0 (t p) })) (sym z)
-          (given p (l .goals) (not-true (E p) (v .0)) (not-true (B p) (v .1)) (u .1))
+          (given p (l .inside) (not-true (E p) (v .0)) (not-true (B p) (v .1)) (u .1))
       pick p (inr l) =
           subst (λ x. Offered B idle (record { goal = x; left = cond (eqb x 0) 0 (t x) })) (sym (l .zero-is))
           (still

@@ -8,13 +8,15 @@ use native.Mathlib.Omega.{arith}
 use lib.Dec.{eqb, leb}
 use lib.ListN.{length, length-map, replicate}
 use borrow.Author.Tests.{ne-eqb, eqb-true, eqb-false, leb-true, leb-false, lt-leb, not-false}
-use Rattle.schedule.specs.Range.{Goals, Order, each, lowest}
+use Rattle.schedule.specs.Range.{Goals, Order, each}
+use Rattle.logic.specs.Quantifiers.{lowest}
 use Rattle.dispatch_rule.specs.declared.Head.{Head}
 use Rattle.dispatch_rule.specs.Rule.{State, idle, count, on, ready, worked, ends, busy, assigned, tick}
 use Rattle.dispatch_rule.specs.Validity.{In, Busy, Valid}
 use Rattle.dispatch_rule.specs.Run.{working, Done}
 use Rattle.logic.proofs.Bools.{test, by-test, not-true, or-true as or-cases}
-use Rattle.schedule.proofs.Range.{each-at, each-all, each-not, Lowest, Nothing, lowest-is}
+use Rattle.logic.proofs.Lowest.{Lowest, Nothing, lowest-is}
+use Rattle.schedule.proofs.Range.{each-at, each-all, each-not}
 use Rattle.dispatch_rule.proofs.Taking.{leftOn, count-here, count-there, same-or, Taken, taken-is}
 use Rattle.dispatch_rule.proofs.Working.{Sound, count-worked, ends-in, ends-not, left-falls, all-or-idle}
 
@@ -156,13 +158,13 @@ module _ (R : ℕ → ℕ → Bool) (n : ℕ) (t : ℕ → ℕ) (o : Order R (Go
       first (inl p) =
           let x = lowest (λ i. not (s .ended i)) n in (
             x,
-            p .goals,
+            p .inside,
             not-true (s .ended x) (p .passes),
             each-all (λ i. not (R i x) || s .ended i) n
                 (λ i b.
                 ⊎-elim
                 (λ r.
-                ap (λ y. not (R i x) || y) (not-false (s .ended i) (p .none-below i (b .0) (o .rising i x b (p .goals) r))) ∙ or-true (not (R i x)))
+                ap (λ y. not (R i x) || y) (not-false (s .ended i) (p .none-below i (b .0) (o .rising i x b (p .inside) r))) ∙ or-true (not (R i x)))
                 (λ r. ap (λ y. not y || s .ended i) r) (test (R i x))),
           )
 

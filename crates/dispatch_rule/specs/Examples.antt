@@ -5,8 +5,7 @@ use mathlib.Core.List.{List, [], _∷_}
 use Prim.Native.Nat.{ℕ, _-_}
 use lib.Dec.{eqb}
 use lib.ListN.{getD}
-use Rattle.logic.specs.Quantifiers.{every}
-use Rattle.schedule.specs.Range.{lowest}
+use Rattle.logic.specs.Quantifiers.{every, lowest}
 use Rattle.schedule.specs.Heaviest.{heaviest}
 use Rattle.dispatch_rule.specs.declared.Head.{Head}
 use Rattle.dispatch_rule.specs.Rule.{State, start}

@@ -5,7 +5,8 @@ use mathlib.Core.List.{List, [], _∷_, map}
 use Prim.Native.Nat.{ℕ, _+_, _-_}
 use lib.Dec.{eqb, leb}
 use lib.ListN.{replicate}
-use Rattle.schedule.specs.Range.{each, lowest}
+use Rattle.logic.specs.Quantifiers.{lowest}
+use Rattle.schedule.specs.Range.{each}
 use Rattle.dispatch_rule.specs.declared.Head.{Head}
 
 -- "a row of heads, each with its goal and ticks left, and .. the .. set of ended goals"

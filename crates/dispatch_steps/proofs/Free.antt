@@ -11,8 +11,9 @@ use Rattle.sets.specs.Sets.{without, single}
 use Rattle.sets.proofs.Membership.{has-single}
 use Rattle.graph.specs.Graph.{hasGoal}
 use Rattle.graph.proofs.Goals.{goal-none, goal-without}
-use Rattle.schedule.specs.Range.{Goals, lowest}
-use Rattle.schedule.proofs.Range.{lowest-is, lowest-of, lowest-none}
+use Rattle.logic.specs.Quantifiers.{lowest}
+use Rattle.schedule.specs.Range.{Goals}
+use Rattle.logic.proofs.Lowest.{lowest-is, lowest-of, lowest-none}
 use Rattle.dispatch_rule.specs.declared.Head.{Head}
 use Rattle.dispatch_rule.specs.Rule.{ready, next, offer}
 use Rattle.dispatch_steps.specs.declared.Board.{Board}
@@ -68,8 +69,8 @@ module _ {w : ℕ} (R : ℕ → ℕ → Bool) (n : ℕ) (t : ℕ → ℕ) (E : �
     next-is =
         ⊎-elim
         (λ l.
-        lowest-of (hasGoal set) w (next R n E B) (l .goals .0, omega (arith, l .goals .1)) (f .says (next R n E B) (l .goals) ∙ l .passes)
-        (λ i a b. f .says i (a, omega (arith, l .goals .1)) ∙ l .none-below i a b))
+        lowest-of (hasGoal set) w (next R n E B) (l .inside .0, omega (arith, l .inside .1)) (f .says (next R n E B) (l .inside) ∙ l .passes)
+        (λ i a b. f .says i (a, omega (arith, l .inside .1)) ∙ l .none-below i a b))
         (λ l.
         lowest-none (hasGoal set) w
         (λ i a. is-false (hasGoal set i) (λ h. let c = f .inside i h in true≢false (sym (sym (f .says i c) ∙ h) ∙ l .none i c)))
@@ -79,7 +80,7 @@ module _ {w : ℕ} (R : ℕ → ℕ → Bool) (n : ℕ) (t : ℕ → ℕ) (E : �
     left-is : (p : Plan) → Planned p → ofGoal (p .ticks) (next R n E B) ≡ cond (eqb (next R n E B) 0) 0 (t (next R n E B))
     left-is p q =
         ⊎-elim
-        (λ l. q (next R n E B) (l .goals) ∙ sym (ap (λ b. cond b 0 (t (next R n E B))) (ne-eqb (next R n E B) 0 (λ e. omega (arith, l .goals .0)))))
+        (λ l. q (next R n E B) (l .inside) ∙ sym (ap (λ b. cond b 0 (t (next R n E B))) (ne-eqb (next R n E B) 0 (λ e. omega (arith, l .inside .0)))))
         (λ l. ap (ofGoal (p .ticks)) (l .zero-is) ∙ sym (ap (λ b. cond b 0 (t (next R n E B))) (eq-eqb (next R n E B) 0 (l .zero-is))))
         (lowest-is (can B) n)
 

@@ -13,8 +13,8 @@ use Rattle.sets.proofs.Membership.{first-member}
 use Rattle.sets.proofs.Members.{first-in}
 use Rattle.graph.specs.Graph.{hasGoal}
 use Rattle.graph.proofs.Goals.{goal-none, lowest-least}
-use Rattle.schedule.specs.Range.{lowest}
-use Rattle.schedule.proofs.Range.{lowest-of, lowest-none}
+use Rattle.logic.specs.Quantifiers.{lowest}
+use Rattle.logic.proofs.Lowest.{lowest-of, lowest-none}
 use Rattle.dispatch_rule.specs.declared.Head.{Head}
 use Rattle.dispatch_rule.specs.Rule.{idle, worked}
 use Rattle.dispatch_steps.specs.declared.Board.{Board}

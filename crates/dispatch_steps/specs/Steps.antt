@@ -6,7 +6,7 @@ use lib.Dec.{eqb, ltb, leb}
 use lib.ListN.{getD}
 use Rattle.sets.specs.Sets.{goalLimit, union, without, single}
 use Rattle.graph.specs.Graph.{hasGoal}
-use Rattle.schedule.specs.Range.{lowest}
+use Rattle.logic.specs.Quantifiers.{lowest}
 use Rattle.dispatch_rule.specs.declared.Head.{Head}
 use Rattle.dispatch_rule.specs.Rule.{State, idle, worked}
 use Rattle.dispatch_steps.specs.declared.Board.{Board}

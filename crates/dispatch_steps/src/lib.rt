@@ -8,7 +8,7 @@ ghost use mathlib.Core.Bool.{cond};
 ghost use Prim.Native.Nat.{_≤_};
 ghost use Rattle.sets.specs.Sets.{goalLimit};
 ghost use Rattle.graph.specs.Graph.{hasGoal};
-ghost use Rattle.schedule.specs.Range.{lowest};
+ghost use Rattle.logic.specs.Quantifiers.{lowest};
 ghost use Rattle.dispatch_rule.specs.Rule.{worked};
 ghost use Rattle.dispatch_steps.specs.Steps as S;
 

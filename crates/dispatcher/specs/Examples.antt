@@ -3,7 +3,7 @@ use mathlib.Core.Path.{_≡_, refl}
 use mathlib.Core.List.{List, [], _∷_}
 use Prim.Native.Nat.{ℕ}
 use lib.ListN.{replicate}
-use Rattle.logic.specs.Quantifiers.{every, someBelow}
+use Rattle.logic.specs.Quantifiers.{every, someBelow, lowest}
 use Rattle.sets.specs.Sets.{has, setOf, within, subset}
 use Rattle.graph.specs.Graph.{goalsOf}
 use Rattle.record_fields.specs.Fields.{number, ownFacts, lengthAt, placeAfter, goalSet, listed}
@@ -12,7 +12,6 @@ use Rattle.record_rules.specs.Reading.{_must_else_place_, counts, header, first
 use Rattle.record_rules.specs.Outcome.{refused, accepted, readThen}
 use Rattle.independence.specs.Independence.{knownIndependent, independent}
 use Rattle.order.specs.Order.{waits, before}
-use Rattle.schedule.specs.Range.{lowest}
 use Rattle.dispatch_rule.specs.declared.Head.{Head}
 use Rattle.dispatch_rule.specs.Rule.{idle}
 use Rattle.dispatcher.specs.Ticks.{startOutcome, startAnswer, startRow, tickOutcome, tickAnswer, tickRow}

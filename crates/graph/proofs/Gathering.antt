@@ -21,7 +21,8 @@ use Rattle.sets.proofs.Builder.{single-lt, members-lt, union-lt, has-setOf, has
 use Rattle.logic.specs.Table.{table}
 use Rattle.logic.proofs.Table.{table-ext, table-at}
 use Rattle.graph.specs.Graph.{ahead, goalsOf, Within}
-use Rattle.graph.specs.Passes.{pass, gather, Still, sameRows}
+use Rattle.graph.specs.Passes.{pass}
+use Rattle.graph.specs.PassRows.{gather, Still, sameRows}
 use Rattle.graph.proofs.Rows.{goals-has, rows-length, row-past, row-lt}
 
 -- ---- the loop over a row's goals

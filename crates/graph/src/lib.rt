@@ -8,6 +8,7 @@ ghost use Rattle.sets.specs.Sets as S;
 ghost use Rattle.graph.specs.Graph as G;
 ghost use Rattle.graph.specs.Closure as C;
 ghost use Rattle.graph.specs.Passes as P;
+ghost use Rattle.graph.specs.PassRows as Q;
 ghost use Rattle.graph.specs.Linking.{Linked};
 
 // Row g - 1 is the set of the goals that goal g is before, goal h at bit h - 1; rows past the count are zero.
@@ -16,9 +17,18 @@ pub struct Graph {
     pub rows: [u32; Graph::MAX],
 }
 
+// A closed graph, and the number of passes that closing it took.
+pub struct Closed {
+    pub graph: Graph,
+    pub passes: u32,
+}
+
 impl Graph {
     // The most goals that a clause has.
     pub const MAX: usize = sets::GOALS;
+
+    // The most passes that closing a graph takes.
+    pub const PASSES: u32 = 6;
 
     // The graph of n goals without an edge.
     pub fn empty(n: usize) -> Graph
@@ -45,26 +55,30 @@ impl Graph {
         self.rows[i]
     }
 
-    // The closure: passes up to the first that adds nothing.
-    pub fn closed(mut self) -> Graph
+    // The closure, in passes up to the first that adds none, and their number.
+    pub fn closed(mut self) -> Closed
         requires { ⌜ C.IsGraph self ⌝ }
-        ensures { λ r. ⌜ r ≡ C.closing self ⌝ }
+        ensures { λ r. ⌜ r ≡ P.closedOf self ⌝ }
     {
         let n = self.n;
         let all = sets::below32(n);
-        loop {
+        let mut passes = 0u32;
+        for k in 1..=Graph::PASSES {
+            passes = k;
             let still = pass(&mut self.rows, n);
             if still == all {
-                let rows = self.rows;
-                return Graph { n, rows };
+                break;
             }
         }
+        let rows = self.rows;
+        let graph = Graph { n, rows };
+        Closed { graph, passes }
     }
 }
 
 // The row with the rows of its goals.
 fn joined(rows: &[u32; Graph::MAX], row: u32) -> u32
-    ensures { λ r. ⌜ r ≡ P.gather S.goalLimit (now (rows .entry)) row row ⌝ }
+    ensures { λ r. ⌜ r ≡ Q.gather S.goalLimit (now (rows .entry)) row row ⌝ }
 {
     let mut all = row;
     let mut left = row;
@@ -78,8 +92,8 @@ fn joined(rows: &[u32; Graph::MAX], row: u32) -> u32
 
 // The same for a row whose goals are all of `still`: the goals of their rows lead to nothing new, and are passed over.
 fn joined_still(rows: &[u32; Graph::MAX], row: u32, still: u32) -> u32
-    requires { ⌜ P.Still (now rows) still × (S.subset row still ≡ true) ⌝ }
-    ensures { λ r. ⌜ r ≡ P.gather S.goalLimit (now (rows .entry)) row row ⌝ }
+    requires { ⌜ Q.Still (now rows) still × (S.subset row still ≡ true) ⌝ }
+    ensures { λ r. ⌜ r ≡ Q.gather S.goalLimit (now (rows .entry)) row row ⌝ }
 {
     let mut all = row;
     let mut left = row;
@@ -90,17 +104,6 @@ fn joined_still(rows: &[u32; Graph::MAX], row: u32, still: u32) -> u32
         left = sets::without32(sets::without_first32(left), via);
     }
     all
-}
-
-// The same by the shorter way, where there is one.
-fn row_pass(rows: &[u32; Graph::MAX], row: u32, still: u32) -> u32
-    requires { ⌜ P.Still (now rows) still ⌝ }
-    ensures { λ r. ⌜ r ≡ P.gather S.goalLimit (now (rows .entry)) row row ⌝ }
-{
-    if sets::subset32(row, still) {
-        return joined_still(rows, row, still);
-    }
-    joined(rows, row)
 }
 
 // The set with goal i + 1 in it, if its row is as it was.
@@ -122,7 +125,7 @@ fn pass(rows: &mut [u32; Graph::MAX], n: usize) -> u32
     requires { ⌜ (n ≤ S.goalLimit) × G.Within S.goalLimit n (now rows) ⌝ }
     ensures { λ r. ⌜
         (now (rows .exit) ≡ G.rowsOf S.goalLimit n (P.pass n (G.ahead (now (rows .entry)))))
-        × (r ≡ P.sameRows n (now (rows .entry)) (now (rows .exit)))
+        × (r ≡ Q.sameRows n (now (rows .entry)) (now (rows .exit)))
         ⌝ }
 {
     let mut next = [0u32; Graph::MAX];
@@ -131,7 +134,11 @@ fn pass(rows: &mut [u32; Graph::MAX], n: usize) -> u32
     while i > 0 {
         i -= 1;
         let row = rows[i];
-        let more = row_pass(rows, row, still);
+        let more = if sets::subset32(row, still) {
+            joined_still(rows, row, still)
+        } else {
+            joined(rows, row)
+        };
         still = kept(still, i, more == row);
         next[i] = more;
     }

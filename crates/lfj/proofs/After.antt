@@ -1,4 +1,4 @@
--- The goals that a goal is before, case by case.
+-- The goals that a goal is before, and the number of passes, case by case.
 use mathlib.Core.Path.{_≡_, refl, sym, ap, _∙_}
 use mathlib.Core.Bool.{true, false, _&&_}
 use mathlib.Core.List.{List}
@@ -14,7 +14,7 @@ use Rattle.record_fields.specs.Fields.{goalCount}
 use Rattle.record_rules.specs.declared.Refusal.{Refusal}
 use Rattle.record_rules.specs.declared.Reading.the-variants.{Fine}
 use Rattle.record_rules.specs.Reading.{reading}
-use Rattle.record_rules.specs.Outcome.{Outcome, refused, accepted, values}
+use Rattle.record_rules.specs.Outcome.{Outcome, refused, accepted, readThen, values}
 use Rattle.record_rules.proofs.Must.{between-low, between-high}
 use Rattle.record_rules.proofs.Outcomes.{told-apart, one-value, read-refused, read-fine, by-reading, holds, fails}
 use Rattle.record.proofs.WellFormed.{fine-well-formed}
@@ -22,8 +22,8 @@ use Rattle.order.specs.Order as Order
 use Rattle.order.specs.Order.{before}
 use Rattle.annotator.specs.declared.ReadAnswer.{ReadAnswer}
 use Rattle.annotator.specs.declared.ReadAnswer.the-variants.{Accepted, Refused}
-use Rattle.annotator.specs.Answers.{readOutcome, read, orderGraph}
-use Rattle.lfj_words.specs.Words.{refusalWord, word, afterWord}
+use Rattle.annotator.specs.Answers.{readOutcome, read, orderGraph, passes, orderPasses}
+use Rattle.lfj_words.specs.Words.{refusalWord, word, readWord, afterWord}
 use Rattle.clause_facts.specs.Facts.{filled}
 use Rattle.lfj.specs.Calls.{after}
 
@@ -36,12 +36,30 @@ module _ (b : List ℕ) where
       (ap readOutcome (sym f) ∙ e)
 
   -- the word of a refused record
+  refused-word : (o : Outcome ℕ) {s : ReadAnswer} {w : ℕ} (r : Refusal) → readOutcome s ≡ read b → s ≡ Refused r → w ≡ refusalWord (r .number) (r .place)
+      → w ≡ word (λ m. m) (readThen b o)
+  unfolding read
+  refused-word o {s} {w} r e f h =
+      by-reading b (accepted (goalCount b)) (λ x. refused (r .number) (r .place) ≡ x → w ≡ word (λ m. m) (readThen b o))
+      (λ u q k. h ∙ ap (λ (x : Outcome ℕ). word (λ m. m) x) (k ∙ read-refused b o u refl q)) (λ q k. absurd (told-apart k)) (ap readOutcome (sym f) ∙ e)
+
   pub after-refused : {s : ReadAnswer} {w : ℕ} (r : Refusal) (g : ℕ) → readOutcome s ≡ read b → s ≡ Refused r → w ≡ refusalWord (r .number) (r .place)
       → w ≡ afterWord (after b g)
-  unfolding afterWord after read
-  after-refused {s} {w} r g e f h =
-      by-reading b (accepted (goalCount b)) (λ o. refused (r .number) (r .place) ≡ o → w ≡ afterWord (after b g))
-      (λ u q k. h ∙ ap (λ (x : Outcome ℕ). word (λ m. m) x) (k ∙ read-refused b _ u refl q)) (λ q k. absurd (told-apart k)) (ap readOutcome (sym f) ∙ e)
+  unfolding afterWord after
+  after-refused r g = refused-word _ r
+
+  pub passes-refused : {s : ReadAnswer} {w : ℕ} (r : Refusal) → readOutcome s ≡ read b → s ≡ Refused r → w ≡ refusalWord (r .number) (r .place)
+      → w ≡ readWord (passes b)
+  unfolding readWord passes
+  passes-refused r = refused-word _ r
+
+  -- the number of passes of an accepted one
+  pub passes-fine : {k : ℕ} → reading b ≡ Fine → k ≡ orderPasses b → k ≡ readWord (passes b)
+  unfolding readWord orderPasses passes
+  passes-fine f e = e ∙ (ap (λ (o : Outcome ℕ). values 0 o .value) (sym is) ∙ ap (λ (o : Outcome ℕ). word (λ m. m) o) is)
+    where
+      is : accepted (Order.passCount b) ≡ readThen b (accepted (Order.passCount b))
+      is = read-fine b _ refl f
 
   -- of a goal outside the record
   pub after-outside : {w : ℕ} (g : ℕ) → reading b ≡ Fine → leb 1 g && leb g (goalCount b) ≡ false → w ≡ refusalWord 14 0 → w ≡ afterWord (after b g)

@@ -13,6 +13,7 @@ use lib.Dec.{leb}
 use lib.ListN.{length}
 use lib.Pow.{pow-mono}
 use Rattle.graph.specs.Graph.{goalsOf}
+use Rattle.graph.specs.Passes.{passLimit}
 use Rattle.graph.proofs.Rows.{goals-lt}
 use mathlib.Core.Logic.{⊎-elim}
 use Rattle.record_fields.specs.Fields.{goalCount, varCount, goalPlace, textPlace}
@@ -29,7 +30,8 @@ use Rattle.record.specs.Limits.{Bytes}
 use Rattle.record.proofs.WellFormed.{fine-well-formed, well-formed-fine}
 use Rattle.record.proofs.Limits.{text-limit, place-limit}
 use Rattle.record.proofs.Refusals.{refusal-number, refusal-limit}
-use Rattle.order.specs.Order.{before}
+use Rattle.order.specs.Order.{before, passCount}
+use Rattle.order.proofs.Theorems.{passes-limit}
 use Rattle.expression.specs.Expr.{Expr}
 use Rattle.expression.specs.Expr as E
 use Rattle.expression.specs.Text.{formLimit}
@@ -45,7 +47,7 @@ use Rattle.mel.specs.Annotation.{mel, melOutcome, melAnswer}
 use Rattle.mel.proofs.Short.{mel-short}
 use Rattle.record_text.specs.declared.Span.{Span}
 use Rattle.record_text.specs.Texts.{ofGoal, goalText, noSpan}
-use Rattle.annotator.specs.Answers.{read, check}
+use Rattle.annotator.specs.Answers.{read, passes, check}
 use Rattle.annotator.proofs.Cases.{numbers}
 use Rattle.lfj_words.specs.Words.{readWord, afterWord, formWord, melWord, verdictWord, checkWord}
 use Rattle.lfj.specs.Calls.{after, variables, textWord}
@@ -77,6 +79,11 @@ module _ (b : List ℕ) (bytes : Bytes b) where
   variables-fits : Fit (λ n. Unit {0}) (variables b)
   unfolding variables
   variables-fits = all-read (λ k p. Small p) (λ n. Unit {0}) b (accepted (varCount b)) limit (λ e. tt)
+
+  passes-fits : Fit (λ k. (1 ≤ k) × (k ≤ passLimit)) (passes b)
+  unfolding passes
+  passes-fits =
+      all-read (λ k p. Small p) (λ k. (1 ≤ k) × (k ≤ passLimit)) b (accepted (passCount b)) limit (λ e. passes-limit b (fine-well-formed b e .goals-to))
 
   after-fits : (g : ℕ) → Fit (λ m. Unit {0}) (after b g)
   unfolding after
@@ -164,6 +171,7 @@ module _ (b : List ℕ) (bytes : Bytes b) where
       record {
         of-read = λ k p. all-refused _ _ read-fits;
         of-variables = λ k p. all-refused _ _ variables-fits;
+        of-passes = λ k p. all-refused _ _ passes-fits;
         of-after = λ g k p. all-refused _ _ (after-fits g);
         of-form = λ buf k p. all-refused _ _ (form-fits buf);
         of-length = λ k p. all-refused _ _ length-fits;
@@ -175,6 +183,7 @@ module _ (b : List ℕ) (bytes : Bytes b) where
   pub values-fit : ValuesFit b
   values-fit =
       record {
+        of-passes = λ k. all-accepted _ _ passes-fits;
         of-form = λ buf n e. let h = all-accepted _ _ (form-fits buf) e in omega (arith, h);
         of-length = λ n e. let h = all-accepted _ _ length-fits e in omega (arith, h);
         of-thirteen = thirteen-goals;
@@ -204,6 +213,12 @@ module _ (b : List ℕ) where
   unfolding variables
   variables-low = all-read (λ k p. Unit {0}) (λ n. n < 2 ^ 56) b (accepted (varCount b)) (λ r e. tt) (λ e. omega (arith, fine-well-formed b e .vars-to))
 
+  passes-low : Low (λ k. k) (passes b)
+  unfolding passes
+  passes-low =
+      all-read (λ k p. Unit {0}) (λ k. k < 2 ^ 56) b (accepted (passCount b)) (λ r e. tt)
+      (λ e. let l = passes-limit b (fine-well-formed b e .goals-to) .1 in omega (arith, l))
+
   after-low : (g : ℕ) → Low (λ m. m) (after b g)
   unfolding after
   after-low g =
@@ -217,6 +232,7 @@ module _ (b : List ℕ) where
       record {
         of-read = number-says (λ n. n) 0 (read b) read-low;
         of-variables = number-says (λ n. n) 0 (variables b) variables-low;
+        of-passes = number-says (λ k. k) 0 (passes b) passes-low;
         of-after = λ g. number-says (λ m. m) 0 (after b g) (after-low g);
         of-form = λ buf. form-number (F.formAnswer b buf) (F.shown b);
         of-length = form-number (F.formLength b) (F.shown b);
@@ -266,6 +282,7 @@ zero-accepted b =
     record {
       of-read = told-zero (s .of-read) (n .of-read);
       of-variables = told-zero (s .of-variables) (number-zero 0 (variables b) (λ k p. all-refused (λ k p. 1 ≤ k) (λ n. Unit {0}) (variables-some b)));
+      of-passes = told-zero (s .of-passes) (n .of-passes);
       of-after = λ g. told-zero (s .of-after g) (after-accepted b g);
       of-form = λ buf. told-zero (s .of-form buf) (n .of-form buf);
       of-length = told-zero (s .of-length) (n .of-length);

@@ -59,6 +59,19 @@ pub extern "C" fn lfj_order(bytes: &[u8], rows: &mut [u32; Graph::MAX]) -> u64
     }
 }
 
+// The number of passes in which the graph of waits is closed.
+#[no_mangle]
+pub extern "C" fn lfj_passes(bytes: &[u8]) -> u64
+    ensures { λ r. ⌜ r ≡ W.readWord (P.passes (now (bytes .entry))) ⌝ }
+{
+    let answer = annotator::order(bytes);
+    let reading = answer.reading;
+    match reading {
+        ReadAnswer::Refused(r) => lfj_words::refused(r),
+        ReadAnswer::Accepted(_) => answer.passes as u64,
+    }
+}
+
 // The goals that a goal is before: their set.
 #[no_mangle]
 pub extern "C" fn lfj_after(bytes: &[u8], goal: u32) -> u64

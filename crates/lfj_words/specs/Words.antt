@@ -6,9 +6,9 @@ use Rattle.record_rules.specs.Outcome.{Outcome, refused, accepted}
 use Rattle.expression.specs.Search.{Four}
 use Rattle.expression_grammar.specs.Check.{Verdict, same, differs}
 
--- `lfj_version`: 1.4.0 as major, minor and patch, two digits each. The minor is the number of change requests that have landed.
+-- `lfj_version`: 1.5.0 as major, minor and patch, two digits each. The minor is the number of change requests that have landed.
 abbrev pub version : ℕ
-version = 10400
+version = 10500
 
 -- The number at bits 56 to 63, the place at bits 0 to 31: no place has more bits, whatever the record's length, and no length (lfj/specs/Fits.antt, dispatcher/specs/Runs.antt).
 unfoldable pub refusalWord : ℕ → ℕ → ℕ
@@ -19,7 +19,7 @@ abbrev pub word : {A : Type 0} → (A → ℕ) → Outcome A → ℕ
 word f (refused k p) = refusalWord k p
 word f (accepted x) = f x
 
--- `lfj_read`: the goal count
+-- `lfj_read`: the goal count; `lfj_passes`: the number of passes
 unfoldable pub readWord : Outcome ℕ → ℕ
 readWord o = word (λ n. n) o
 

@@ -11,7 +11,7 @@ ghost use Rattle.order_compare.specs.Verdicts.{verdictOf};
 ghost use Rattle.lfj_words.specs.Words as W;
 
 // The version of the interface: major, minor, the number of change requests that have landed, and patch, two digits each.
-const VERSION: u32 = 10400;
+const VERSION: u32 = 10500;
 
 pub fn version() -> u32
     ensures { λ r. ⌜ r ≡ W.version ⌝ }

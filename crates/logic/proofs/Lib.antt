@@ -1,3 +1,4 @@
 pub mod Bools
 pub mod Quantifiers
+pub mod Lowest
 pub mod Table

@@ -1,12 +1,12 @@
 -- What the bounded quantifiers say.
 use mathlib.Core.Path.{_≡_, refl, sym, ap, ap₂, _∙_}
 use mathlib.Core.Logic.{_⊎_, ⊎-elim}
-use mathlib.Core.Bool.{Bool, true, false, _&&_, _||_, false≢true}
+use mathlib.Core.Bool.{Bool, true, false, _&&_, _||_, true≢false, false≢true}
 use Prim.Native.Nat.{ℕ, zero, suc, _<_}
 use native.Mathlib.Nat.{eq-or-lt-of-le, le-of-suc-le-suc, not-suc-le-zero, le-step, lt-suc-self}
 use native.Mathlib.Omega.{arith}
 use Rattle.logic.specs.Quantifiers.{every, someBelow}
-use Rattle.logic.proofs.Bools.{and-l, and-r, and-i, or-elim, or-l, or-r}
+use Rattle.logic.proofs.Bools.{and-l, and-r, and-i, and-false, or-elim, or-l, or-r}
 
 pub every-out : (w : ℕ) (f : ℕ → Bool) → every w f ≡ true → (x : ℕ) → x < w → f x ≡ true
 unfolding every
@@ -18,6 +18,13 @@ pub every-in : (w : ℕ) (f : ℕ → Bool) → ((x : ℕ) → x < w → f x ≡
 unfolding every
 every-in zero f h = refl
 every-in (suc w) f h = and-i (every w f) (f w) (every-in w f (λ x l. h x (le-step l))) (h w (lt-suc-self w))
+
+-- where it does not hold of every number, it fails for one
+pub every-not : (w : ℕ) (f : ℕ → Bool) → every w f ≡ false → (x : ℕ) × (x < w) × (f x ≡ false)
+unfolding every
+every-not zero f h = absurd (true≢false h)
+every-not (suc w) f h =
+    ⊎-elim (λ u. let r = every-not w f u in (r .0, le-step (r .1), r .2)) (λ u. (w, lt-suc-self w, u)) (and-false (every w f) (f w) h)
 
 pub every-cong : (w : ℕ) (f g : ℕ → Bool) → ((x : ℕ) → x < w → f x ≡ g x) → every w f ≡ every w g
 unfolding every

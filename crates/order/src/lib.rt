@@ -7,6 +7,7 @@ ghost use denote.Ref.{now};
 ghost use Rattle.sets.specs.Sets as S;
 ghost use Rattle.independence.specs.Ties.{tiesOf};
 ghost use Rattle.order.specs.Arrays as W;
+use graph::Closed;
 use graph::Graph;
 use independence::Halves;
 
@@ -100,7 +101,21 @@ pub fn waits_of<'a>(
     waits
 }
 
-// The order of n goals: the closure of their waits.
+// The order of n goals, which is the closure of their waits, and the number of passes that closing them took.
+pub fn closure_of<'a>(
+    n: usize,
+    sets: &'a [u64; Graph::MAX],
+    grounds: &'a [u64; Graph::MAX],
+    listed: &'a [u64; sets::VARIABLES],
+) -> Closed
+    requires { ⌜ n ≤ S.goalLimit ⌝ }
+    ensures { λ r. ⌜ r .graph ≡ W.orderRows S.variableLimit n (now (sets .entry)) (now (grounds .entry)) (now (listed .entry)) ⌝ }
+    ensures { λ r. ⌜ r .passes ≡ W.passesOf S.variableLimit n (now (sets .entry)) (now (grounds .entry)) (now (listed .entry)) ⌝ }
+{
+    waits_of(n, sets, grounds, listed).closed()
+}
+
+// The order alone.
 pub fn order_of<'a>(
     n: usize,
     sets: &'a [u64; Graph::MAX],
@@ -110,7 +125,8 @@ pub fn order_of<'a>(
     requires { ⌜ n ≤ S.goalLimit ⌝ }
     ensures { λ r. ⌜ r ≡ W.orderRows S.variableLimit n (now (sets .entry)) (now (grounds .entry)) (now (listed .entry)) ⌝ }
 {
-    waits_of(n, sets, grounds, listed).closed()
+    let closed = closure_of(n, sets, grounds, listed);
+    closed.graph
 }
 
 // The ties with those of a goal, of this variable set and this ground set, if they are to be added.

@@ -108,6 +108,21 @@ fn run_order(bytes: &[u8]) {
     }
 }
 
+fn say_count(k: usize) {
+    say(b"ok");
+    say_number(k);
+    say(b"\n");
+}
+
+fn run_passes(bytes: &[u8]) {
+    let answer = annotator::order(bytes);
+    let reading = answer.reading;
+    match reading {
+        ReadAnswer::Accepted(_) => say_count(answer.passes as usize),
+        ReadAnswer::Refused(r) => say_refusal(r),
+    }
+}
+
 // The first k bytes of a buffer, or all where it has fewer.
 fn say_front(out: &[u8], k: usize) {
     if k <= out.len() {
@@ -132,11 +147,7 @@ fn run_form(bytes: &[u8], out: &mut [u8]) {
 
 fn run_length(bytes: &[u8]) {
     match annotator::form_length(bytes) {
-        form::FormAnswer::Done(k) => {
-            say(b"ok");
-            say_number(k);
-            say(b"\n");
-        }
+        form::FormAnswer::Done(k) => say_count(k),
         form::FormAnswer::NoForm(q) => say_four(q),
         form::FormAnswer::Refused(r) => say_refusal(r),
     }
@@ -235,6 +246,8 @@ fn run_first(line: &[u8], bytes: &[u8], number: u32) {
         run_waits(bytes);
     } else if check::same(operation, b"order") {
         run_order(bytes);
+    } else if check::same(operation, b"passes") {
+        run_passes(bytes);
     } else if check::same(operation, b"length") {
         run_length(bytes);
     } else if check::same(operation, b"text") {

@@ -1,17 +1,14 @@
 -- Tests, sums and maxima over the goals 1 to n: what they say.
-use mathlib.Core.Path.{_≡_, refl, sym, ap, _∙_, subst}
-use mathlib.Core.Bool.{Bool, true, false, cond, true≢false}
-use mathlib.Core.Logic.{_⊎_, inl, inr, ⊎-elim}
+use mathlib.Core.Path.{_≡_, refl, sym, ap, subst}
+use mathlib.Core.Bool.{Bool, true, false, cond}
+use mathlib.Core.Logic.{_⊎_, ⊎-elim}
 use Prim.Native.Nat.{ℕ, zero, suc, _+_, _-_, _≤_, _<_}
 use native.Mathlib.Nat.{eq-or-lt-of-le}
-use native.Mathlib.Decide.{decLt}
 use native.Mathlib.Omega.{arith}
 use lib.Dec.{eqb}
-use borrow.Author.Tests.{eq-eqb, ne-eqb, eqb-true, eqb-false}
-use Rattle.schedule.specs.Range.{Goals, each, lowest, total, top}
-use Rattle.logic.specs.Quantifiers.{every}
-use Rattle.logic.proofs.Quantifiers.{every-out, every-in}
-use Rattle.logic.proofs.Bools.{by-test, and-false}
+use borrow.Author.Tests.{eq-eqb, ne-eqb}
+use Rattle.schedule.specs.Range.{Goals, each, total, top}
+use Rattle.logic.proofs.Quantifiers.{every-out, every-in, every-not}
 
 -- ---- induction from below
 pub strong : (P : ℕ → Type 0) → ((m : ℕ) → ((i : ℕ) → i < m → P i) → P m) → (m : ℕ) → P m
@@ -30,63 +27,7 @@ module _ (p : ℕ → Bool) where
   each-all n f = every-in n (λ i. p (suc i)) (λ i l. f (suc i) (omega arith, l))
 
   pub each-not : (n : ℕ) → each p n ≡ false → (i : ℕ) × Goals n i × (p i ≡ false)
-  unfolding every
-  each-not zero h = absurd (true≢false h)
-  each-not (suc m) h =
-      ⊎-elim (λ u. let r = each-not m u in (r .0, (r .1 .0, omega (arith, r .1 .1)), r .2)) (λ u. (suc m, omega arith, u))
-      (and-false (each p m) (p (suc m)) h)
-
-  -- ---- lowest: g is 0 and none of 1 to n passes, or g is the lowest that does
-  pub record Lowest (n g : ℕ) : Type 0 where
-    pub goals : Goals n g
-    pub passes : p g ≡ true
-    pub none-below : (i : ℕ) → 1 ≤ i → i < g → p i ≡ false
-
-  pub record Nothing (n g : ℕ) : Type 0 where
-    pub zero-is : g ≡ 0
-    pub none : (i : ℕ) → Goals n i → p i ≡ false
-
-  pub lowest-is : (n : ℕ) → Lowest n (lowest p n) ⊎ Nothing n (lowest p n)
-  unfolding lowest
-  lowest-is zero = inr (record { zero-is = refl; none = λ i g. absurd (omega arith) })
-  lowest-is (suc m) = go (lowest p m) (lowest-is m)
-    where
-      go : (r : ℕ) → Lowest m r ⊎ Nothing m r → Lowest (suc m) (cond (eqb r 0) (cond (p (suc m)) (suc m) 0) r) ⊎ Nothing (suc m) (cond (eqb r 0) (cond (p (suc m)) (suc m) 0) r)
-      go r (inl l) =
-          by-test (λ z. Lowest (suc m) z ⊎ Nothing (suc m) z) (eqb r 0) (λ e. let z = eqb-true r 0 e in absurd (omega (arith, l .goals .0)))
-          (λ e. inl (record { goals = (l .goals .0, omega (arith, l .goals .1)); passes = l .passes; none-below = l .none-below }))
-      go r (inr l) =
-          by-test (λ z. Lowest (suc m) z ⊎ Nothing (suc m) z) (eqb r 0)
-          (λ e.
-          by-test (λ z. Lowest (suc m) z ⊎ Nothing (suc m) z) (p (suc m))
-          (λ u. inl (record { goals = omega arith; passes = u; none-below = λ i a b. l .none i (a, omega arith) }))
-          (λ u.
-          inr
-          (record {
-            zero-is = refl;
-            none = λ i g. ⊎-elim (λ (q : i ≡ suc m). ap p q ∙ u) (λ (q : i < suc m). l .none i (g .0, omega arith)) (eq-or-lt-of-le (g .1));
-          })))
-          (λ e. absurd (eqb-false r 0 e (l .zero-is)))
-
-  pub lowest-le : (n : ℕ) → lowest p n ≤ n
-  lowest-le n = ⊎-elim (λ l. l .goals .1) (λ l. omega (arith, l .zero-is)) (lowest-is n)
-
-  -- nothing else is the lowest
-  pub lowest-of : (n g : ℕ) → Goals n g → p g ≡ true → ((i : ℕ) → 1 ≤ i → i < g → p i ≡ false) → lowest p n ≡ g
-  lowest-of n g a e f =
-      ⊎-elim
-      (λ l.
-      pick (decLt (lowest p n) g) (λ q. true≢false (sym (l .passes) ∙ f (lowest p n) (l .goals .0) q))
-      (decLt g (lowest p n)) (λ q. true≢false (sym e ∙ l .none-below g (a .0) q)))
-      (λ l. absurd (true≢false (sym e ∙ l .none g a))) (lowest-is n)
-    where
-      pick : Dec (lowest p n < g) → (lowest p n < g → ⊥) → Dec (g < lowest p n) → (g < lowest p n → ⊥) → lowest p n ≡ g
-      pick (yes l) no-l d no-r = absurd (no-l l)
-      pick (no l) no-l (yes r) no-r = absurd (no-r r)
-      pick (no l) no-l (no r) no-r = omega arith
-
-  pub lowest-none : (n : ℕ) → ((i : ℕ) → Goals n i → p i ≡ false) → lowest p n ≡ 0
-  lowest-none n f = ⊎-elim (λ l. absurd (true≢false (sym (l .passes) ∙ f (lowest p n) (l .goals)))) (λ l. l .zero-is) (lowest-is n)
+  each-not n h = let r = every-not n (λ i. p (suc i)) h in (suc (r .0), (omega arith, r .1), r .2)
 
 -- ---- sums
 pub total-add : (f g : ℕ → ℕ) (n : ℕ) → total (λ i. f i + g i) n ≡ total f n + total g n

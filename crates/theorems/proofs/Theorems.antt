@@ -1,6 +1,7 @@
 -- The theorems on the whole product: for every well-formed record, on the definitions that the operations' promises cite. Every name in a statement is one of specs/.
 --     T8            form-says-same, others-differ: the form's text is checked "same", the text of every other house form "differs"; same-text
 --     T9            order-graph, order-chains: the order operation gives the order of the chains of waits
+--     passes        order-passes, first-pass, after-passes, one-pass-order, few-passes, no-passes: the number of passes that the order operation gives (02, 5)
 --     T12           check-says, its five equivalences check-15 to check-differs, answer-says: the check of an expression, in `Check.antt`
 --     document 003  published-decides, published-text: figure 1 decides as the operation does, and section 3.2 gives its text
 --     goal text     calls-agree: the part is the one that the other call names
@@ -10,14 +11,16 @@ use mathlib.Core.Bool.{Bool, true}
 use mathlib.Core.List.{List, []}
 use mathlib.Core.Logic.{_↔_}
 use mathlib.Core.Option.{Option, none, some}
-use Prim.Native.Nat.{ℕ}
+use Prim.Native.Nat.{ℕ, _≤_}
 use native.Mathlib.Omega.{arith}
 use denote.Ref.{RefT}
 use Rattle.sets.specs.Sets.{goalLimit}
 use Rattle.graph.specs.Graph.{ahead, graphOf}
+use Rattle.graph.specs.Passes.{after, FirstThatAddsNone, passLimit}
 use Rattle.graph.specs.declared.Graph.{Graph}
 use Rattle.graph.proofs.Rows.{rows-say}
-use Rattle.record_rules.specs.declared.Reading.the-variants.{Fine}
+use Rattle.record_rules.specs.declared.Refusal.{Refusal}
+use Rattle.record_rules.specs.declared.Reading.the-variants.{Fine, Refused}
 use Rattle.record_fields.specs.Fields.{goalCount}
 use Rattle.record_rules.specs.Reading.{reading}
 use Rattle.record.specs.WellFormed.{WellFormed}
@@ -31,7 +34,7 @@ use Rattle.expression.specs.Text.{text}
 use Rattle.expression.proofs.Theorems.{has-order-is, form-unique, order-strict}
 use Rattle.order.specs.Order as O
 use Rattle.order.specs.Order.{before}
-use Rattle.order.proofs.Theorems.{before-is, before-order}
+use Rattle.order.proofs.Theorems.{before-is, before-order, passes-are, passes-order, passes-one-order, passes-limit}
 use Rattle.record_rules.specs.Outcome.{Outcome, refused, accepted, values}
 use Rattle.record_rules.proofs.Outcomes.{told-apart, one-value}
 use Rattle.form.specs.Form.{orThirteen, formText, formAnswer}
@@ -49,8 +52,8 @@ use Rattle.mel_stages.specs.Mel.{checks}
 use Rattle.record_text.specs.declared.Span.{Span}
 use Rattle.record_text.specs.declared.TextAnswer.{TextAnswer}
 use Rattle.record_text.specs.Texts.{goalText, textOutcome, noSpan, textPart}
-use Rattle.annotator.specs.Answers.{orderGraph, check}
-use Rattle.annotator.proofs.Answers.{order-fine}
+use Rattle.annotator.specs.Answers.{orderGraph, orderPasses, check}
+use Rattle.annotator.proofs.Answers.{order-fine, passes-fine, passes-refused, passes-counted, passes-none}
 use Rattle.record_text.specs.Part.{PartAt}
 use Rattle.annotator.proofs.Checks.{check-fine}
 pub use Rattle.theorems.proofs.Check.{check-says, check-15, check-16, check-17, check-same, check-differs, answer-says}
@@ -128,6 +131,26 @@ module _ (b : List ℕ) (w : WellFormed b) where
       ap (λ (g : Graph). ahead (g .rows) i j) order-graph ∙ rows-say goalLimit n R i j (w .goals-to) (p .0) (p .1) (q .0) (q .1) in
       (λ t. before-is b i j .0 (sym e ∙ t), λ c. e ∙ before-is b i j .1 c)
 
+  -- ---- 02, 5: the number of passes that the order operation gives
+  pub order-passes : orderPasses b ≡ O.passCount b
+  order-passes = sym (passes-counted b (passes-fine b (sym fine) refl refl))
+
+  -- "closed in passes, each adding exactly those waits that a chain of two waits standing at its start gives, and end with the first that adds none"
+  pub first-pass : FirstThatAddsNone n (O.waits b) (orderPasses b)
+  first-pass = passes-are b (orderPasses b) .0 (sym order-passes)
+
+  -- "The order stays the same": what stands after them is the order
+  pub after-passes : (i j : ℕ) → Goals n i → Goals n j → after n (O.waits b) (orderPasses b) i j ≡ R i j
+  after-passes i j p q = ap (λ (k : ℕ). after n (O.waits b) k i j) order-passes ∙ passes-order b i j p q
+
+  -- "1 exactly if the waits were closed already"
+  pub one-pass-order : (orderPasses b ≡ 1) ↔ ((i j : ℕ) → R i j ≡ O.waits b i j)
+  one-pass-order = (λ e. passes-one-order b .0 (sym order-passes ∙ e), λ h. order-passes ∙ passes-one-order b .1 h)
+
+  -- "never above 6"
+  pub few-passes : (1 ≤ orderPasses b) × (orderPasses b ≤ passLimit)
+  few-passes = let l = passes-limit b (w .goals-to) in (omega (arith, order-passes, l .0), omega (arith, order-passes, l .1))
+
   -- ---- Document 003: figure 1 answers true exactly if the form operation does not answer 13,
   figure-none : (figure1 R n ≡ true) ↔ (firstN R n ≡ none)
   figure-none = figure-1-first-n R n (order-strict R (Goals n) (before-order b))
@@ -146,6 +169,10 @@ module _ (b : List ℕ) (w : WellFormed b) where
   pub published-text : figure1 R n ≡ true → formText b ≡ accepted (text (restore (udgExpr R n)))
   published-text t =
       settles b w ∙ thirteen-none (text (form R n)) (figure-none .0 t) ∙ ap accepted (sym (udg-text R n (before-order b) (w .goals-from) t))
+
+-- of a refused record the number of passes is 0
+pub no-passes : (b : List ℕ) (r : Refusal) → reading b ≡ Refused r → orderPasses b ≡ 0
+no-passes b r e = sym (passes-none b (passes-refused b r refl e))
 
 -- ---- Goal text: for any bytes and any number the part handed out is the one whose place and length the other call gives.
 pub calls-agree : (s r : RefT (List ℕ)) (g : ℕ) (a : TextAnswer) → textOutcome a ≡ goalText (s .now) g

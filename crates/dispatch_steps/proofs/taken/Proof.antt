@@ -1,7 +1,7 @@
 use native.Mathlib.Omega.{arith}
 use Rattle.sets.specs.Sets.{goalLimit}
 use Rattle.graph.specs.Graph.{hasGoal}
-use Rattle.schedule.proofs.Range.{lowest-le}
+use Rattle.logic.proofs.Lowest.{lowest-le}
 use Rattle.dispatch_steps.proofs.Masks.{taking-busy, taking-none, taking-new}
 use borrow.Author.Needs.{needs}
 use Rattle.dispatch_steps.proofs.taken.Statement.{statement}

@@ -7,7 +7,7 @@ use lib.ListN.{length, getD}
 use Rattle.sets.specs.Sets.{union, members}
 use Rattle.sets.proofs.Members.{fewer, first-in}
 use Rattle.sets.proofs.Builder.{without-lt}
-use Rattle.graph.specs.Passes.{gather}
+use Rattle.graph.specs.PassRows.{gather}
 use Rattle.graph.proofs.Gathering.{gather-end, gather-more}
 use Rattle.graph.proofs.joined.Statement.{statement}
 use Rattle.graph.proofs.joined.Tie as tie

@@ -10,7 +10,7 @@ use Rattle.sets.specs.Sets.{has, union, without, single, first, members}
 use Rattle.sets.proofs.Membership.{has-without, subset-has, first-member}
 use Rattle.sets.proofs.Members.{first-in}
 use Rattle.sets.proofs.Builder.{without-lt}
-use Rattle.graph.specs.Passes.{gather}
+use Rattle.graph.specs.PassRows.{gather}
 use Rattle.graph.proofs.Gathering.{gather-end, gather-skip, turn-less}
 use Rattle.graph.proofs.joined_still.Statement.{statement}
 use Rattle.graph.proofs.joined_still.Tie as tie

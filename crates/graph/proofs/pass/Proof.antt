@@ -2,10 +2,12 @@ use borrow.Author.Needs.{needs}
 use denote.Ref.{now}
 use mathlib.Core.Path.{_≡_, sym, ap, _∙_, subst}
 use mathlib.Core.List.{List}
+use mathlib.Core.Logic.{⊎-elim}
 use Prim.Native.Nat.{ℕ, suc, _-_, _≤_, _<_}
 use native.Mathlib.Omega.{arith}
 use Rattle.graph.specs.Graph.{ahead, goalsOf, rowsOf}
-use Rattle.graph.specs.Passes.{pass, sameRows}
+use Rattle.graph.specs.Passes.{pass}
+use Rattle.graph.specs.PassRows.{sameRows}
 use Rattle.graph.proofs.Gathering.{pass-row, Filled, filled-none, filled-more, filled-all, Kept, kept-none, kept-more, kept-all, kept-still, same-whole}
 use Rattle.graph.proofs.pass.Statement.{statement}
 use Rattle.graph.proofs.pass.Tie as tie
@@ -32,11 +34,30 @@ mul-row c = search needs
 element-copy-out-row : tie.Need-element-copy-out-row Inv-loop μ-loop
 element-copy-out-row c = search needs
 
-row-pass-requires : tie.Need-row-pass-requires Inv-loop μ-loop
-row-pass-requires c κs =
-    let s = c .before .before .before .before in
-    let l = c .before .before .before .loop in
-    kept-still 32 (s .args .n) (now (s .args .rows)) (s .pre .0) (s .pre .1) (l .i) (l .still) (l .inv .2)
+subset32-requires : tie.Need-subset32-requires Inv-loop μ-loop
+subset32-requires c κs = search needs
+
+joined-still-requires : tie.Need-joined-still-requires Inv-loop μ-loop
+joined-still-requires c κs =
+    let s = c .before .before .before .before .before .before in
+    let l = c .before .before .before .before .before .loop in (
+      kept-still 32 (s .args .n) (now (s .args .rows)) (s .pre .0) (s .pre .1) (l .i) (l .still) (l .inv .2),
+      sym (c .before .before .subset32 .ensures) ∙ c .before .if1 .taken,
+    )
+
+joined-requires : tie.Need-joined-requires Inv-loop μ-loop
+joined-requires c κs = search needs
+
+-- either way it is the row of the pass
+more-is : (c : tie.Joined1 Inv-loop μ-loop) →
+    let s = c .before .before .before .before .before in
+    c .if1 .more ≡ row (s .args .n) (now (s .args .rows)) (c .before .before .before .before .loop .i - 1)
+more-is c =
+    let s = c .before .before .before .before .before in
+    let l = c .before .before .before .before .loop in
+    let n = s .args .n in
+    let is = pass-row 32 n (now (s .args .rows)) (s .pre .0) (s .pre .1) (l .i - 1) (omega (arith, c .before .before .before .loop-test .taken, l .inv .0)) in
+    ⊎-elim (λ w. w .3 ∙ w .2 .ensures ∙ is) (λ w. w .3 ∙ w .2 .ensures ∙ is) (c .if1 .came)
 
 kept-requires : tie.Need-kept-requires Inv-loop μ-loop
 kept-requires c κs = search needs
@@ -57,11 +78,11 @@ loop-again c =
     let n = s .args .n in
     let rows = now (s .args .rows) in
     let some : 0 < l .i = omega (arith, c .before .before .before .before .loop-test .taken) in
-    let is = c .before .row-pass .ensures ∙ pass-row 32 n rows (s .pre .0) (s .pre .1) (l .i - 1) (omega (arith, some, l .inv .0)) in (
+    let is = more-is (c .before) in (
       omega (arith, l .inv .0),
-      filled-more 32 n (row n rows) (l .i) (l .next) (c .before .row-pass .result) (s .pre .0) some (l .inv .0) (l .inv .1) is,
+      filled-more 32 n (row n rows) (l .i) (l .next) (c .before .if1 .more) (s .pre .0) some (l .inv .0) (l .inv .1) is,
       subst (Kept n (row n rows) rows (l .i - 1)) (sym (c .kept .ensures))
-          (kept-more n (row n rows) rows (l .i) (l .still) (c .before .row-pass .result) some (l .inv .0) (l .inv .2) is),
+          (kept-more n (row n rows) rows (l .i) (l .still) (c .before .if1 .more) some (l .inv .0) (l .inv .2) is),
     )
 
 below32-requires : tie.Need-below32-requires Inv-loop μ-loop
@@ -94,7 +115,7 @@ returns-2 : tie.Need-returns-2 Inv-loop μ-loop
 unfolding rowsOf
 returns-2 c =
     let a = c .before .before in
-    let none = sym (stay a) ∙ c .if1 .left ∙ c .before .below32 .ensures in
+    let none = sym (stay a) ∙ c .if2 .left ∙ c .before .below32 .ensures in
     let same = same-whole (n a) (rows a) (a .before .loop .next) 32 (row (n a) (rows a)) (a .before .before .pre .1) (new a) none in
     (same ∙ new a, stay a ∙ ap (sameRows (n a) (rows a)) (sym same))
 
@@ -108,7 +129,9 @@ pass-spec =
     sub-i
     mul-row
     element-copy-out-row
-    row-pass-requires
+    subset32-requires
+    joined-still-requires
+    joined-requires
     kept-requires
     mul-next
     array-write-next

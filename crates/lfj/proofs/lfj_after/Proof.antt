@@ -37,7 +37,7 @@ returns c =
     let b = c .before .before .before .before .before .before .before .before .before .args .bytes .now in
     let g = c .before .before .before .before .before .before .before .before .before .args .goal in
     let fine = was-accepted b (c .before .before .before .before .before .before .before .order .ensures .0) (c .before .before .before .before .before .reading2 .given .1) in
-    after-row b g (fine .0) (c .before .before .before .before .before .before .before .order .ensures .1) (tested b g (c .before .before .before .inside .ensures) (c .before .before .if1 .taken) (fine .1)) (c .row .ensures)
+    after-row b g (fine .0) (c .before .before .before .before .before .before .before .order .ensures .1 .0) (tested b g (c .before .before .before .inside .ensures) (c .before .before .if1 .taken) (fine .1)) (c .row .ensures)
 
 refused-requires-2 : tie.Need-refused-requires-2
 refused-requires-2 c κs = search needs

@@ -27,7 +27,7 @@ returns-2 : tie.Need-returns-2
 returns-2 c =
     let e = c .before .before .before .before .before .order .ensures in
     let f = c .before .before .before .reading2 .given .1 in
-    (read-accepted (e .0) _ f, rows-fine _ _ (was-accepted _ (e .0) f .0) (e .1))
+    (read-accepted (e .0) _ f, rows-fine _ _ (was-accepted _ (e .0) f .0) (e .1 .0))
 
 pub lfj-order-spec : {M : Type 1} → statement M
 lfj-order-spec =
