@@ -1,2 +1,1 @@
-mod Widths
 mod Turning

@@ -1,1 +1,1 @@
-pub mod Exchange
+pub mod Adding

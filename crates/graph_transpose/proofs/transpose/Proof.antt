@@ -1,63 +1,67 @@
-use mathlib.Core.Path.{refl}
-use mathlib.Core.Logic.{inl, inr}
-use Rattle.graph_transpose.proofs.Widths.{half-16, half-8, half-4, half-2, half-1}
-use Rattle.graph_transpose.proofs.Turning.{within-words, round-words, five-rounds}
+use borrow.Author.Needs.{needs}
+use native.Mathlib.Omega.{arith}
+use denote.Ref.{now}
+use mathlib.Core.Path.{_≡_, subst}
+use Prim.Native.Nat.{ℕ, _-_, _≤_}
+use Rattle.graph_transpose.proofs.Turning.{Turned, turned-size, turned-none, turned-more, turned-all}
 use Rattle.graph_transpose.proofs.transpose.Statement.{statement}
 use Rattle.graph_transpose.proofs.transpose.Tie as tie
 
-exchange-requires : tie.Need-exchange-requires
-exchange-requires c κs =
-    let s = c .before in
-    (inl refl, half-16, s .pre .0, within-words _ _ (s .pre .0) (s .pre .1))
+abbrev Inv-loop : tie.InvT-loop
+Inv-loop rows n turned₀ i₀ turned i = (i ≤ n) × Turned 32 rows i turned
 
-exchange-requires-2 : tie.Need-exchange-requires-2
-exchange-requires-2 c κs =
-    let s = c .before .before .before in
-    (inr (inl refl), half-8, s .pre .0, round-words 16 (inl refl) _ _ _ (within-words _ _ (s .pre .0) (s .pre .1)) (c .before .exchange .ensures))
+abbrev μ-loop : tie.MeasureT-loop
+μ-loop rows n turned₀ i₀ turned i = n - i
 
-exchange-requires-3 : tie.Need-exchange-requires-3
-exchange-requires-3 c κs =
-    let d = c .before .before .before in
-    let s = d .before .before in
-    let w = round-words 16 (inl refl) _ _ _ (within-words _ _ (s .pre .0) (s .pre .1)) (d .exchange .ensures) in
-    (inr (inr (inl refl)), half-4, s .pre .0, round-words 8 (inr (inl refl)) _ _ _ w (c .before .exchange2 .ensures))
+loop-holds : tie.Need-loop-holds Inv-loop μ-loop
+loop-holds c = (omega arith, turned-none 32 (now (c .args .rows)))
 
-exchange-requires-4 : tie.Need-exchange-requires-4
-exchange-requires-4 c κs =
-    let e = c .before .before .before in
-    let d = e .before .before in
-    let s = d .before .before in
-    let w = round-words 16 (inl refl) _ _ _ (within-words _ _ (s .pre .0) (s .pre .1)) (d .exchange .ensures) in
-    let x = round-words 8 (inr (inl refl)) _ _ _ w (e .exchange2 .ensures) in
-    (inr (inr (inr (inl refl))), half-2, s .pre .0, round-words 4 (inr (inr (inl refl))) _ _ _ x (c .before .exchange3 .ensures))
+mul-row : tie.Need-mul-row Inv-loop μ-loop
+mul-row c = search needs
 
-exchange-requires-5 : tie.Need-exchange-requires-5
-exchange-requires-5 c κs =
-    let f = c .before .before .before in
-    let e = f .before .before in
-    let d = e .before .before in
-    let s = d .before .before in
-    let w = round-words 16 (inl refl) _ _ _ (within-words _ _ (s .pre .0) (s .pre .1)) (d .exchange .ensures) in
-    let x = round-words 8 (inr (inl refl)) _ _ _ w (e .exchange2 .ensures) in
-    let y = round-words 4 (inr (inr (inl refl))) _ _ _ x (f .exchange3 .ensures) in
-    (inr (inr (inr (inr refl))), half-1, s .pre .0, round-words 2 (inr (inr (inr (inl refl)))) _ _ _ y (c .before .exchange4 .ensures))
+element-copy-out-row : tie.Need-element-copy-out-row Inv-loop μ-loop
+element-copy-out-row c = search needs
 
-returns : tie.Need-returns
+single32-requires : tie.Need-single32-requires Inv-loop μ-loop
+single32-requires c κs = search needs
+
+add-requires : tie.Need-add-requires Inv-loop μ-loop
+add-requires c κs =
+    let l = c .before .before .before .before .loop in
+    turned-size 32 (now (c .before .before .before .before .before .args .rows)) (l .i) (l .turned) (l .inv .1)
+
+add-i : tie.Need-add-i Inv-loop μ-loop
+add-i c = search needs
+
+loop-less : tie.Need-loop-less Inv-loop μ-loop
+loop-less c = search needs
+
+loop-again : tie.Need-loop-again Inv-loop μ-loop
+loop-again c =
+    let l = c .before .before .before .before .before .loop in
+    let a = c .before .before .before .before .before .before .args in
+    (omega arith, turned-more 32 (now (a .rows)) (l .i) (l .turned) _ _ (l .inv .1) (c .before .before .single32 .ensures) (c .add .ensures))
+
+returns : tie.Need-returns Inv-loop μ-loop
 returns c =
-    let g = c .before .before in
-    let f = g .before .before in
-    let e = f .before .before in
-    let d = e .before .before in
-    let s = d .before .before in
-    five-rounds _ _ (s .pre .0) (s .pre .1) _ _ _ _ _ (d .exchange .ensures) (e .exchange2 .ensures) (f .exchange3 .ensures) (g .exchange4 .ensures) (c .exchange5 .ensures)
+    let l = c .before .loop in
+    let s = c .before .before in
+    let end : l .i ≡ s .args .n = omega arith in
+    turned-all 32 (now (s .args .rows)) (s .args .n) (l .turned) (s .pre .0) (s .pre .1)
+    (subst (λ (k : ℕ). Turned 32 (now (s .args .rows)) k (l .turned)) end (l .inv .1))
 
 pub transpose-spec : {M : Type 1} → statement M
 transpose-spec =
     tie.close
     (tie.spec
-    exchange-requires
-    exchange-requires-2
-    exchange-requires-3
-    exchange-requires-4
-    exchange-requires-5
+    Inv-loop
+    μ-loop
+    loop-holds
+    mul-row
+    element-copy-out-row
+    single32-requires
+    add-requires
+    add-i
+    loop-less
+    loop-again
     returns)
