@@ -46,6 +46,14 @@ pub(super) fn two_goals() -> Lines {
     }
     each_variable(&mut lines);
     lines
+        .note("listed-with-all", "a variable that is listed with all 63 others ties its own goals");
+    for x in [0, 1, 31, 32, 62, 63] {
+        let mut parts = Parts::over(64, &[1 << x, 1 << x, u64::MAX ^ 1 << x]);
+        parts.pairs = (0..64).filter(|y| *y != x).map(|y| (x.min(y), x.max(y))).collect();
+        lines.order(&parts);
+        lines.check(&parts, b"(1,2)&3");
+    }
+    lines
 }
 
 /// Each of 64 variables.
