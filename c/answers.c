@@ -74,6 +74,16 @@ static void answer_order(struct text *out, const struct lent *record, const char
     give_back(&lent);
 }
 
+static void answer_passes(struct text *out, const struct lent *record, const char *field)
+{
+    uint64_t answer = lfj_passes(record->bytes, record->length);
+    (void)field;
+    if (lfj_refusal(answer) == LFJ_ACCEPTED)
+        text_print(out, "ok %u", lfj_pass_count(answer));
+    else
+        refused(out, answer);
+}
+
 typedef uint64_t writer(const uint8_t *record, size_t n, uint8_t *out, size_t room);
 
 /* Calls a writer. What it wrote stands in the first bytes of `buffer`. */
@@ -330,10 +340,10 @@ struct operation {
 };
 
 static const struct operation operations[] = {
-    {"read", 0, answer_read},     {"order", 0, answer_order}, {"form", 1, answer_form},
-    {"length", 0, answer_length}, {"mel", 1, answer_mel},     {"text", 1, answer_text},
-    {"check", 1, answer_check},   {"sheet", 0, answer_sheet}, {"start", 1, answer_start},
-    {"tick", 2, answer_tick},     {"run", 1, answer_run},
+    {"read", 0, answer_read},     {"order", 0, answer_order},   {"passes", 0, answer_passes},
+    {"form", 1, answer_form},     {"length", 0, answer_length}, {"mel", 1, answer_mel},
+    {"text", 1, answer_text},     {"check", 1, answer_check},   {"sheet", 0, answer_sheet},
+    {"start", 1, answer_start},   {"tick", 2, answer_tick},     {"run", 1, answer_run},
 };
 
 static const struct operation *operation_called(const char *name)

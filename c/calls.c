@@ -175,6 +175,8 @@ static void test_texts(const struct known *known, const struct lent *record)
     unsigned goal;
     hold(lfj_goal_count(lfj_read(record->bytes, record->length)) == known->goals, known->name,
          "lfj_read");
+    hold(lfj_pass_count(lfj_passes(record->bytes, record->length)) == 1, known->name,
+         "lfj_passes: the waits are closed already");
     for (goal = 1; goal <= known->goals; goal++) {
         const char *text = known->texts[goal - 1];
         uint64_t answer = lfj_goal_text(record->bytes, record->length, goal);
@@ -206,6 +208,7 @@ static void hold_refused(const char *name, const uint8_t *record, size_t n, uint
     hold(lfj_read(record, n) == refusal, name, "lfj_read");
     hold(lfj_after(record, n, 1) == refusal, name, "lfj_after");
     hold(lfj_order(record, n, narrow) == refusal, name, "lfj_order");
+    hold(lfj_passes(record, n) == refusal, name, "lfj_passes");
     hold(lfj_form(record, n, lent.bytes, lent.length) == refusal, name, "lfj_form");
     hold(lfj_form(record, n, NULL, 0) == refusal, name, "lfj_form without a buffer");
     hold(lfj_form_length(record, n) == refusal, name, "lfj_form_length");
@@ -312,6 +315,50 @@ static void test_long_mel(const struct lent *record)
     give_back(&enough);
     give_back(&less);
     give_back(&most);
+}
+
+/* A record of so many goals, at most 24, in which each goal waits for the one before it alone:
+ * goal g has variable g - 1, and the pairs of all other goals are listed. */
+static struct lent chain_record(unsigned goals)
+{
+    uint8_t record[LFJ_RECORD_MAX] = {'L', 'F', 'J', 0, 1};
+    size_t n = 24;
+    unsigned i;
+    unsigned j;
+    record[5] = (uint8_t)goals;
+    record[6] = (uint8_t)goals;
+    for (i = 0; i < goals; i++) {
+        record[15 - i / 8] |= (uint8_t)(1u << i % 8);
+        record[n + 7 - i / 8] = (uint8_t)(1u << i % 8);
+        record[n + 8] = 1;
+        record[n + 9] = 'x';
+        n += 10;
+    }
+    for (i = 0; i < goals; i++)
+        for (j = i + 2; j < goals; j++) {
+            record[n++] = (uint8_t)i;
+            record[n++] = (uint8_t)j;
+            record[7]++;
+        }
+    return lend_bytes(record, n);
+}
+
+/* The passes of chains: from these numbers of goals on one more. */
+static void test_passes(void)
+{
+    static const unsigned from[LFJ_PASSES_MAX] = {1, 3, 4, 6, 10, 18};
+    unsigned wanted = 0;
+    unsigned goals;
+    for (goals = 1; goals <= 24; goals++) {
+        struct lent record = chain_record(goals);
+        wanted += wanted < LFJ_PASSES_MAX && goals == from[wanted];
+        hold(lfj_passes(record.bytes, record.length) == wanted, "a chain", "lfj_passes");
+        hold(lfj_passes(record.bytes, record.length - (goals > 2 ? 1 : 0))
+                 == (goals > 2 ? refusal_word(LFJ_CUT_OFF, record.length - 1) : wanted),
+             "a chain that is cut off", "lfj_passes");
+        hold(lent_kept(&record, 0), "a chain", "the record changed");
+        give_back(&record);
+    }
 }
 
 /* A run of a sample on k heads: T, its last working tick, and of each tick that is listed the
@@ -474,6 +521,7 @@ int main(int argc, char **argv)
         hold(lent_kept(&record, 0), samples[i].name, "the record changed");
         give_back(&record);
     }
+    test_passes();
     for (i = 0; i < RUNS; i++) {
         struct lent record = read_sample(argv[1], runs[i].name);
         test_run(&runs[i], &record);

@@ -33,6 +33,7 @@ static void call_all(void)
     lfj_read(NULL, 0);
     lfj_after(NULL, 0, 1);
     lfj_order(NULL, 0, narrow);
+    lfj_passes(NULL, 0);
     lfj_form(NULL, 0, NULL, 0);
     lfj_form_length(NULL, 0);
     lfj_mel(NULL, 0, NULL, 0);
@@ -50,6 +51,7 @@ static void call_all(void)
 #undef lfj_read
 #undef lfj_after
 #undef lfj_order
+#undef lfj_passes
 #undef lfj_form
 #undef lfj_form_length
 #undef lfj_mel
@@ -76,6 +78,11 @@ uint64_t lfj_after(const uint8_t *record, size_t n, uint32_t goal)
 uint64_t lfj_order(const uint8_t *record, size_t n, uint32_t rows[LFJ_GOAL_MAX])
 {
     return called("lfj_order", record, n) + rows[0];
+}
+
+uint64_t lfj_passes(const uint8_t *record, size_t n)
+{
+    return called("lfj_passes", record, n);
 }
 
 uint64_t lfj_form(const uint8_t *record, size_t n, uint8_t *out, size_t room)
@@ -147,8 +154,8 @@ uint64_t lfj_tick(const uint8_t *record, size_t n, struct lfj_row_head *heads, s
 int main(void)
 {
     call_all();
-    if (calls != 15) {
-        fprintf(stderr, "%d calls of 15 reached the library\n", calls);
+    if (calls != 16) {
+        fprintf(stderr, "%d calls of 16 reached the library\n", calls);
         wrong = 1;
     }
     return wrong;

@@ -48,8 +48,8 @@ extern "C" {
 #endif
 
 /* This header's version: major * 10000 + minor * 100 + patch, and as text. */
-#define LFJ_VERSION 10400
-#define LFJ_VERSION_TEXT "1.4.0"
+#define LFJ_VERSION 10500
+#define LFJ_VERSION_TEXT "1.5.0"
 
 /* No record that is accepted is longer, in bytes. */
 #define LFJ_RECORD_MAX 1910
@@ -59,6 +59,8 @@ extern "C" {
 #define LFJ_VARIABLE_MAX 64
 /* The most ticks of a goal; the least is 1. */
 #define LFJ_TICK_MAX 60000
+/* The most passes that close the waits of a clause; the least is 1. */
+#define LFJ_PASSES_MAX 6
 /* The longest form, in bytes: a buffer of this size is never too short. */
 #define LFJ_FORM_MAX 146
 /* A bound on the MEL annotation, in bytes: a buffer of this size is never too short,
@@ -116,6 +118,13 @@ uint64_t lfj_after(const uint8_t *record, size_t n, uint32_t goal);
  * through others; rows above the goal count are 0. Accepted: the goal count.
  */
 uint64_t lfj_order(const uint8_t *record, size_t n, uint32_t rows[LFJ_GOAL_MAX]);
+
+/*
+ * How many passes close the waits to that order. A pass adds exactly those waits that a
+ * chain of two waits standing at its start gives; the last one adds none, and counts.
+ * Accepted: the number, 1 to LFJ_PASSES_MAX; 1 exactly if the waits were closed already.
+ */
+uint64_t lfj_passes(const uint8_t *record, size_t n);
 
 /*
  * Writes the fork-join expression in house form into the first bytes of `out` and
@@ -276,6 +285,12 @@ static inline unsigned lfj_goal_count(uint64_t answer)
 static inline unsigned lfj_variable_count(uint64_t answer)
 {
     return (unsigned)(answer & 0xff);
+}
+
+/* Accepted by lfj_passes: the number of passes. */
+static inline unsigned lfj_pass_count(uint64_t answer)
+{
+    return (unsigned)(answer & UINT64_C(0xffffffff));
 }
 
 /* Accepted by lfj_after: the set of goals. */
@@ -508,6 +523,11 @@ static inline uint64_t lfj_nullable_order(const uint8_t *record, size_t n,
     return lfj_order(lfj_lent(record, n), n, rows);
 }
 
+static inline uint64_t lfj_nullable_passes(const uint8_t *record, size_t n)
+{
+    return lfj_passes(lfj_lent(record, n), n);
+}
+
 static inline uint64_t lfj_nullable_form(const uint8_t *record, size_t n, uint8_t *out,
                                          size_t room)
 {
@@ -580,6 +600,7 @@ static inline uint64_t lfj_nullable_tick(const uint8_t *record, size_t n,
 #define lfj_read lfj_nullable_read
 #define lfj_after lfj_nullable_after
 #define lfj_order lfj_nullable_order
+#define lfj_passes lfj_nullable_passes
 #define lfj_form lfj_nullable_form
 #define lfj_form_length lfj_nullable_form_length
 #define lfj_mel lfj_nullable_mel

@@ -94,6 +94,7 @@ function print_answer(word, answer, from, fields) {
     if (text_of(answer) != "") printf "            %s\n", clear(text_of(answer), from)
     if (answer !~ /^ok /) return
     if (operation ~ /^(start|tick)$/) printf "            %s\n", state(answer, 2)
+    if (operation == "passes") printf "            %s pass%s, the last of which adds nothing\n", substr(answer, 4), (answer == "ok 1" ? "" : "es")
     if (operation == "run") {
         split(answer, fields, " ")
         printf "            last working tick %s, all ticks %s, heaviest chain %s\n", fields[2], fields[3], fields[4]

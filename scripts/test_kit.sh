@@ -89,7 +89,8 @@ tried 0 '1 half {0}; 2 edge {1,2}; 3 join {0,2}; independent 0-1 0-2' --show dra
 tried 0 '^            ended {}; head 1 idle; head 2 goal 1, 1 left$' --show tick/freed-goal.2
 tried 0 '^            ended {1}; head 1 idle; head 2 idle$' --show tick/freed-goal.2
 tried 0 '^            last working tick 15, all ticks 34, heaviest chain 12$' --show run/more-heads.4
-FILES="kit/vectors/after-04.txt" tried 0 '1777 agree' "$work/right"
+tried 0 '^            3 passes, the last of which adds nothing$' --show passes/example.1
+FILES="kit/vectors/after-05.txt" tried 0 '1444 agree' "$work/right"
 FILES="kit/none.txt" tried 2 'no such file of cases' "$work/right"
 
 twice=$(sh kit/run.sh --list | awk '{ print $1 }' | sort | uniq -d)

@@ -35,12 +35,12 @@ for output in crates/run_cases/stdout crates/run_texts/stdout crates/sheet_limit
 done
 sums >"$work/before"
 echo '# no case' >"$work/empty.txt"
-echo 'read 4 00 = refused 1 1' >"$work/read.txt"
-echo 'unread 4 00 = ok 0' >"$work/unread.txt"
-echo 'start 4 00 1 = refused 1 1' >"$work/start.txt"
-echo 'tick 4 00 00000000 2 0 0 = refused 1 1' >"$work/tick.txt"
-echo 'check 4 00 = ' >"$work/broken.txt"
-echo 'read 3 00 = refused 1 1' >"$work/other.txt"
+echo 'read 5 00 = refused 1 1' >"$work/read.txt"
+echo 'unread 5 00 = ok 0' >"$work/unread.txt"
+echo 'start 5 00 1 = refused 1 1' >"$work/start.txt"
+echo 'tick 5 00 00000000 2 0 0 = refused 1 1' >"$work/tick.txt"
+echo 'check 5 00 = ' >"$work/broken.txt"
+echo 'read 4 00 = refused 1 1' >"$work/other.txt"
 for tool in expectations text_cases sheet_cases; do
     refused tools/$tool.py
     refused tools/$tool.py kit/cases/none.txt

@@ -1,10 +1,10 @@
 #!/usr/bin/env python3
 """Writes what the program `run_cases` is run on, and what it must print.
 
-    tools/expectations.py kit/cases/*.txt kit/vectors/after-04.txt        from the repository's root
+    tools/expectations.py kit/cases/*.txt kit/vectors/after-05.txt        from the repository's root
 
 The words are files of the conformance kit's format, `QUESTION = ANSWER` a line (kit/README.md).
-The answers of drafts.txt come from the paper's text (tools/paper_drafts.py), those of after-04.txt from an independent annotator, those
+The answers of drafts.txt come from the paper's text (tools/paper_drafts.py), those of after-05.txt from an independent annotator, those
 of the other files from the hand-written one of rust/compare. The questions go to crates/run_cases/data/cases.txt, the answers, and nothing
 that the program itself printed, to crates/run_cases/stdout. Left out are the questions `unread`, which ask what a program leaves of its
 standard input: this program calls the library alone, and scripts/sheets.py asks the program `sheet`. Left out are also `start`, `tick` and

@@ -5,9 +5,9 @@ import sys
 from typing import NamedTuple
 
 # the field K: how many change requests have landed
-LANDED = 4
+LANDED = 5
 # the number of fields behind OPERATION and K; of a tick without those of its heads, of which the third field says how many there are
-FIELDS = {"read": 1, "waits": 1, "order": 1, "form": 2, "length": 1, "mel": 2, "text": 2, "check": 2, "sheet": 1, "unread": 1}
+FIELDS = {"read": 1, "waits": 1, "order": 1, "passes": 1, "form": 2, "length": 1, "mel": 2, "text": 2, "check": 2, "sheet": 1, "unread": 1}
 FIELDS |= {"start": 2, "tick": 3, "run": 2}
 
 
@@ -92,7 +92,7 @@ def cases_of(path):
 def cases(paths):
     """The cases of the files, in their order."""
     if not paths:
-        fail(f"no file is named; name files of the kit, as in {sys.argv[0]} kit/cases/*.txt kit/vectors/after-04.txt")
+        fail(f"no file is named; name files of the kit, as in {sys.argv[0]} kit/cases/*.txt kit/vectors/after-05.txt")
     found = [case for path in paths for case in cases_of(path)]
     if not found:
         fail(f"no case stands in {' '.join(paths)}")

@@ -124,9 +124,23 @@ STATE = r"`([\d: ]*)`, ended (\{[\d,]*\})"
 START = rf"start of (\d+) heads? gives (?:`([\d: ]*)`|({REFUSED}))"
 TICK = rf"tick of {STATE} gives (?:{STATE}|({REFUSED}))"
 RUN = rf"run of (\d+) heads? gives (?:T (\d+), W (\d+), C (\d+)|({REFUSED}))"
-# any of these, without their groups
-DISPATCHED = "(?:" + "|".join(re.sub(r"(?<!\\)\((?!\?)", "(?:", said) for said in (START, TICK, RUN)) + ")"
-SAID = rf"(?:read|refused by \d+ at \d+|(?:form|MEL) `[^`]*`|{DISPATCHED})"
+# how many passes close the waits
+PASSES = r"(\d+) pass(?:es)?|passes (refused by \d+ at \d+)"
+
+
+def ungrouped(pattern):
+    """The pattern without its groups."""
+    return re.sub(r"(?<!\\)\((?!\?)", "(?:", pattern)
+
+
+DISPATCHED = "(?:" + "|".join(map(ungrouped, (START, TICK, RUN))) + ")"
+SAID = rf"(?:read|refused by \d+ at \d+|(?:form|MEL) `[^`]*`|{ungrouped(PASSES)}|{DISPATCHED})"
+
+
+def passes_case(data, said):
+    """A case of the number of passes, or of a refusal."""
+    number, refused = re.fullmatch(PASSES, said).groups()
+    case(f"passes {LANDED} {hexed(data)}", refused.replace("by ", "").replace("at ", "") if refused else f"ok {number}")
 
 
 def dispatch_case(data, said):
@@ -183,6 +197,8 @@ def one_draft(draft, paper, last):
             text = re.search(r"(form|MEL) `([^`]*)`", said)
             if re.fullmatch(DISPATCHED, said):
                 dispatch_case(data, said)
+            elif re.fullmatch(PASSES, said):
+                passes_case(data, said)
             elif text:
                 text_case(text[1].lower(), data, text[2])
             else:
@@ -210,7 +226,7 @@ def one_draft(draft, paper, last):
         check_case(two, found[1], f"refused {found[2]} {found[3]}")
     # clauses given by their waits
     clause = r"(?:(\w+) goals?, )?(?:no waits|[Ww]aits ((?:\d+-\d+(?:, | and )?)+))(?: of (\w+)(?: goals)?)?: "
-    for found in iter(lambda: take(clause + rf"(?:`([^`]*)`|refusal 13 with ([\d ]*\d|the first four)|({DISPATCHED}(?:, {DISPATCHED})*))"), None):
+    for found in iter(lambda: take(clause + rf"(?:`([^`]*)`|refusal 13 with ([\d ]*\d|the first four)|({DISPATCHED}(?:, {DISPATCHED})*)|(\d+ pass(?:es)?))"), None):
         waits = pairs_in(found[2] or "")
         word = (found[1] or found[3] or "").lower()
         n = WORDS[word] if word else max(map(max, waits))
@@ -220,8 +236,13 @@ def one_draft(draft, paper, last):
         elif found[6]:
             for said in re.findall(DISPATCHED, found[6]):
                 dispatch_case(data, said)
+        elif found[7]:
+            passes_case(data, found[7])
         else:
             no_form(data, first_four(n, waits) if found[5] == "the first four" else found[5])
+    for found in iter(lambda: take(r"A chain of (\d+)(?: to (\d+))? goals: (\d+ pass(?:es)?)"), None):
+        for n in range(int(found[1]), int(found[2] or found[1]) + 1):
+            passes_case(waiting(n, [(g, g + 1) for g in range(1, n)]), found[3])
     found = take(r"One goal: `([^`]*)`")
     if found:
         text_case("form", waiting(1, []), found[1])

@@ -1,7 +1,7 @@
 #!/usr/bin/env python3
 """Writes crates/run_texts/stdin and crates/run_texts/stdout: texts to read, and what the paper and the vectors say of them.
 
-    tools/text_cases.py kit/cases/drafts.txt kit/cases/readings.txt kit/vectors/after-04.txt        from the repository's root
+    tools/text_cases.py kit/cases/drafts.txt kit/cases/readings.txt kit/vectors/after-05.txt        from the repository's root
 
 The words are files of the conformance kit's format (kit/README.md); drafts.txt is taken from the paper by tools/paper_drafts.py. The
 expectation is the answer of each `check` line whose record is accepted,

@@ -1,5 +1,6 @@
-//! A clause in words: what is known, the form, who waits for whom and why, the MEL annotation;
-//! for a clause without a form what can be done, for a refused record which byte is wrong.
+//! A clause in words: what is known, the form, who waits for whom and why, the passes to the order,
+//! the MEL annotation; for a clause without a form what can be done, for a refused record which
+//! byte is wrong.
 
 pub mod causes;
 mod expression;
@@ -8,6 +9,7 @@ pub mod mel;
 pub mod new_facts;
 pub mod new_waits;
 mod no_form;
+pub mod passes;
 pub mod places;
 mod refused;
 pub mod split;
@@ -72,6 +74,8 @@ fn accepted(page: &mut Page, view: &View, named: &Named) {
     }
     page.heading("Who waits for whom");
     waits::in_words(page, named, &view.order);
+    page.heading("How the waits are closed to the order");
+    passes::in_words(page, named, view.passes);
     page.heading("The MEL annotation");
     mel::in_words(page, named, &view.mel);
 }

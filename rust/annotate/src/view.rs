@@ -10,6 +10,8 @@ pub struct View {
     pub clause: Result<lfj::Clause, lfj::Refusal>,
     /// Row g - 1: the goals that wait for goal g, closed; empty if refused.
     pub order: Vec<u32>,
+    /// How many passes close the waits to the order; 0 if refused.
+    pub passes: u32,
     pub form: Result<lfj::Expr, lfj::Refusal>,
     /// Empty without a form.
     pub form_text: String,
@@ -28,6 +30,7 @@ impl View {
             name: name.to_string(),
             names,
             order: order.unwrap_or_default(),
+            passes: lfj::passes(&record).unwrap_or(0),
             form: lfj::form_tree(&record),
             form_text: lfj::form_text(&record).unwrap_or_default(),
             mel: lfj::mel_text(&record).unwrap_or_default(),

@@ -2,6 +2,7 @@
 //! against the proved library.
 
 use annotate::explain::causes::{between, causes, direct_waits};
+use annotate::explain::passes::passes;
 use annotate::explain::places::{Part, field_at};
 use annotate::explain::{explain, mel, new_facts, new_waits, split};
 use annotate::view::View;
@@ -141,6 +142,9 @@ Who waits for whom
     - 1 half: both have Left, which is not ground at 1 half
     - 2 edge: both have Thread, which is not ground at 2 edge
 
+How the waits are closed to the order
+  In 1 pass: no chain of two waits gives a further one.
+
 The MEL annotation
   (half & edge), join
   2 stages, one after another.
@@ -203,6 +207,9 @@ Who waits for whom
   4 close(D) waits for
     - 2 picot(B): B and D are not known to be independent
 
+How the waits are closed to the order
+  In 1 pass: no chain of two waits gives a further one.
+
 The MEL annotation
   (indep(A,C), indep(B,C), indep(B,D) => trim(A) & picot(B) & braid(C) & close(D))
   1 stage. The checks of a stage are made at run time, before it starts: if all of them hold, its
@@ -256,6 +263,9 @@ Who waits for whom
       independent
     - 3 r(X): X and Y are not known to be independent, nor is 1 pair more
 
+How the waits are closed to the order
+  In 1 pass: no chain of two waits gives a further one.
+
 The MEL annotation
   (ground(X) => p(X,Y) & q(X,Z)), (indep(X,Y), indep(X,Z) => r(X) & s(Y,Z))
   2 stages, one after another. The checks of a stage are made at run time, before it starts: if all
@@ -294,6 +304,9 @@ Who waits for whom
   4 finish(Left,Right) waits for
     - 2 half(Left): both have Left, which is not ground at 2 half(Left)
     - 3 half(Right): both have Right, which is not ground at 3 half(Right)
+
+How the waits are closed to the order
+  In 1 pass: no chain of two waits gives a further one.
 
 The MEL annotation
   (ground(Left), ground(Right) => spool & half(Left) & half(Right) & finish(Left,Right))
@@ -378,7 +391,7 @@ fn named_goals(text: &str) -> BTreeSet<u32> {
 /// What an explanation says of each goal's waits: the goal, and a line with those it waits for.
 fn told_waits(explained: &str) -> Vec<(u32, String)> {
     let told = explained.split("\nWho waits for whom\n").nth(1).unwrap();
-    let told = told.split("\n\nThe MEL annotation\n").next().unwrap();
+    let told = told.split("\n\nHow the waits are closed").next().unwrap();
     let (mut goal, mut items) = (0, Vec::new());
     for line in told.lines() {
         if let Some(item) = line.strip_prefix("    - ") {
@@ -431,6 +444,59 @@ fn of_many_waits_those_that_no_chain_gives_are_told_in_full() {
     let mut told: Vec<String> = [1, 2, 3, 4, 7].map(reason).to_vec();
     told.push("for like reasons 5 g5 (v0) and 6 g6 (v0)".to_string());
     assert_eq!(last, told);
+}
+
+/// A chain of goals, each of which waits for the one before it alone.
+fn chain(goals: u8) -> View {
+    let mut clause = Clause::new(goals);
+    for goal in 0..goals {
+        clause = clause.goal(&format!("g{}", goal + 1), [goal]);
+        clause = (0..goal.saturating_sub(1)).fold(clause, |c, other| c.independent(other, goal));
+    }
+    View::new("clause", clause.record().unwrap(), Vec::new())
+}
+
+/// What an explanation says of the passes.
+fn told_passes(view: &View) -> String {
+    let explained = explain(view);
+    let told = explained.split("\nHow the waits are closed to the order\n").nth(1).unwrap();
+    told.split("\n\nThe MEL annotation\n").next().unwrap().to_string()
+}
+
+#[test]
+fn passes_in_words() {
+    let closed = "  In 1 pass: no chain of two waits gives a further one.";
+    assert_eq!(told_passes(&chain(1)), closed);
+    assert_eq!(told_passes(&chain(2)), closed);
+    let words = r"  In 3 passes; each adds what a chain of two waits standing at its start gives:
+    - pass 1 adds 1 g1 before 3 g3, 2 g2 before 4 g4 and 3 g3 before 5 g5
+    - pass 2 adds 1 g1 before 4 g4, 1 g1 before 5 g5 and 2 g2 before 5 g5
+    - pass 3 adds nothing";
+    assert_eq!(told_passes(&chain(5)), words);
+    let words = told_passes(&chain(22));
+    assert!(words.starts_with("  In 6 passes;"), "{words}");
+    let third = "pass 3 adds 1 g1 before 6 g6, 1 g1 before 7 g7, 1 g1 before 8 g8, 1 g1 before 9 g9 \
+                 and 58 more";
+    assert_eq!(words.lines().filter(|line| line.contains("- pass")).count(), 6, "{words}");
+    assert!(words.replace("\n      ", " ").contains(third), "{words}");
+    let one = "  In 2 passes; each adds what a chain of two waits standing at its start gives:";
+    assert!(told_passes(&sample("side-by-side")).starts_with(one));
+}
+
+#[test]
+fn passes_are_those_of_the_library() {
+    for view in views() {
+        let direct = direct_waits(view.clause.as_ref().unwrap());
+        let passes = passes(&direct);
+        assert_eq!(passes.len() as u32, view.passes, "{:?}", view.clause);
+        let mut rows = direct;
+        for added in &passes {
+            rows.iter_mut().zip(added).for_each(|(row, more)| *row |= more);
+        }
+        assert_eq!(rows, view.order, "{:?}", view.clause);
+        let adds = |added: &Vec<u32>| added.iter().any(|row| *row != 0);
+        assert!(passes[..passes.len() - 1].iter().all(adds), "{:?}", view.clause);
+    }
 }
 
 #[test]

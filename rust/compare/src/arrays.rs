@@ -40,8 +40,8 @@ impl Arrays {
 
     fn fill(&mut self, record: &[u8], parts: &Parts) {
         *self = Arrays::of(0);
-        if let Ok(order) = crate::order(record) {
-            self.rows = order.rows;
+        if let Ok(closed) = crate::order(record) {
+            self.rows = closed.order.rows;
         }
         self.head = parts.head;
         for (at, (set, _)) in parts.goals.iter().enumerate() {

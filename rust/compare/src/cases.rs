@@ -7,7 +7,7 @@ use crate::{GOAL_LIMIT, Head, Order, Refusal, Verdict, heaviest};
 use std::hint::black_box;
 
 /// The field K: how many change requests have landed.
-pub const LANDED: u8 = 4;
+pub const LANDED: u8 = 5;
 
 /// The operations of the paper, as a case calls them.
 pub trait Annotator {
@@ -17,6 +17,7 @@ pub trait Annotator {
     /// `None` if the annotator does not give the waits before closure.
     fn waits(&self, record: &[u8]) -> Option<Result<Order, Refusal>>;
     fn order(&self, record: &[u8]) -> Result<Order, Refusal>;
+    fn passes(&self, record: &[u8]) -> Result<u32, Refusal>;
     fn after(&self, record: &[u8], goal: u32) -> Result<u32, Refusal>;
     fn form(&self, record: &[u8], out: &mut [u8]) -> Result<u32, Refusal>;
     fn form_length(&self, record: &[u8]) -> Result<u32, Refusal>;
@@ -45,7 +46,10 @@ impl Annotator for Reference {
         Some(crate::waits(record))
     }
     fn order(&self, record: &[u8]) -> Result<Order, Refusal> {
-        crate::order(record)
+        crate::order(record).map(|closed| closed.order)
+    }
+    fn passes(&self, record: &[u8]) -> Result<u32, Refusal> {
+        crate::passes(record)
     }
     fn after(&self, record: &[u8], goal: u32) -> Result<u32, Refusal> {
         crate::after(record, goal)
@@ -274,6 +278,7 @@ fn operation(annotator: &impl Annotator, record: &[u8], words: &[&str]) -> Resul
         "read" => annotator.read(record).map(|_| "ok".to_string()),
         "waits" => annotator.waits(record).map_or_else(skip, |waits| waits.map(rows)),
         "order" => annotator.order(record).map(rows),
+        "passes" => annotator.passes(record).map(|passes| format!("ok {passes}")),
         "after" => annotator.after(record, number()?).map(|set| format!("ok {set:08x}")),
         "form" => written(number()? as usize, |out| annotator.form(record, out))?,
         "length" => annotator.form_length(record).map(|length| format!("ok {length}")),

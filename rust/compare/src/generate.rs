@@ -361,6 +361,21 @@ pub fn clause(random: &mut Random) -> Parts {
     if random.chance(1, 2) { with_facts(random, parts) } else { parts }
 }
 
+/// A clause, of version 1 or 2, in which some goals wait in a long chain, and few others do: it
+/// takes many passes to close it.
+pub fn chained(random: &mut Random) -> Parts {
+    // Up to 23 goals every pair can be listed.
+    let goals = random.between(2, 23);
+    let (breaks, more) = (random.pick(&[0, 0, 1, 4]), random.pick(&[0, 0, 1, 6]));
+    let mut waits = Vec::new();
+    for i in 1..=goals {
+        waits.extend((i < goals && !random.chance(breaks, 16)).then_some((i, i + 1)));
+        waits.extend((i + 2..=goals).filter(|_| random.chance(more, 64)).map(|j| (i, j)));
+    }
+    let parts = Parts::with_waits(goals, &waits).expect("few pairs");
+    if random.chance(1, 2) { with_facts(random, parts) } else { parts }
+}
+
 /// Gives each goal of a clause of version 2 at most so many ticks, so that its runs are short.
 pub fn shorten(random: &mut Random, parts: &mut Parts, most: usize) {
     parts.facts.iter_mut().for_each(|facts| facts.ticks = random.between(1, most) as u16);

@@ -1,5 +1,5 @@
 //! A second annotator of half-motif clauses, written by hand from the papers
-//! `01-scope.md` ("01") and `02-change-requests.md` ("02"), requests 1 to 4, and apart from the
+//! `01-scope.md` ("01") and `02-change-requests.md` ("02"), requests 1 to 5, and apart from the
 //! proved one. It is the reference of the differential test and the yardstick of the benchmark,
 //! so it is fast: goal sets are `u32`, variable sets `u64`, nothing is allocated, a record is
 //! decoded once a call.
@@ -43,7 +43,7 @@ pub mod states;
 pub use dispatch::{HEAD_LIMIT, Head, heaviest};
 pub use expression::{TEXT_LIMIT, Verdict};
 pub use form::FORM_LIMIT;
-pub use order::Order;
+pub use order::{Closed, Order};
 pub use record::{GOAL_LIMIT, GOAL_TEXT_LIMIT, TICK_LIMIT};
 pub use sheet::{INPUT_LIMIT, MEL_LIMIT, sheet};
 
@@ -75,10 +75,16 @@ pub fn waits(bytes: &[u8]) -> Result<Order, Refusal> {
     Clause::read(bytes).map(|clause| order::waits(&clause))
 }
 
-/// The record's order: row i - 1 has the goals that goal i is before.
+/// The record's order, row i - 1 has the goals that goal i is before, and the passes to it.
 #[inline(never)]
-pub fn order(bytes: &[u8]) -> Result<Order, Refusal> {
+pub fn order(bytes: &[u8]) -> Result<Closed, Refusal> {
     Clause::read(bytes).map(|clause| order::after(&clause))
+}
+
+/// How many passes close the waits, the one that adds none counted: 1 to 6.
+#[inline(never)]
+pub fn passes(bytes: &[u8]) -> Result<u32, Refusal> {
+    Clause::read(bytes).map(|clause| order::after(&clause).passes)
 }
 
 /// The goals that `goal` is before, goal g at bit g - 1; 14 for a goal outside the record.
@@ -94,13 +100,13 @@ pub fn after(bytes: &[u8], goal: u32) -> Result<u32, Refusal> {
 /// Writes the fork-join expression into the first bytes of `out`: its length, or 13, 12.
 #[inline(never)]
 pub fn form(bytes: &[u8], out: &mut [u8]) -> Result<u32, Refusal> {
-    form::write(&order::after(&Clause::read(bytes)?), out)
+    form::write(&order::after(&Clause::read(bytes)?).order, out)
 }
 
 /// The length of the fork-join expression, or 13.
 #[inline(never)]
 pub fn form_length(bytes: &[u8]) -> Result<u32, Refusal> {
-    form::length(&order::after(&Clause::read(bytes)?))
+    form::length(&order::after(&Clause::read(bytes)?).order)
 }
 
 /// Writes the MEL annotation into the first bytes of `out`: its length, or 12.

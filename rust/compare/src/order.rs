@@ -6,7 +6,7 @@
 //! variable is listed with itself, so a shared one that is not ground falls out too. So goal i
 //! has one set of variables that tie a later goal to it, found once for all of them.
 
-use crate::numbers::{Members, first_goals};
+use crate::numbers::Members;
 use crate::record::{Clause, GOAL_LIMIT};
 
 /// An order on goals 1 to `goals`: row i - 1 holds goal j at bit j - 1. Later rows are 0.
@@ -16,12 +16,11 @@ pub struct Order {
     pub rows: [u32; GOAL_LIMIT],
 }
 
-/// For each goal the variables whose presence makes a later goal wait for it.
-struct Ties {
-    ties: [u64; GOAL_LIMIT],
-    /// The goals with a variable outside the header's ground set: no other goal waits, or has
-    /// one that waits for it, since a ground set only grows from goal to goal.
-    active: u32,
+/// An order, and how many passes close the waits to it (02, 5).
+#[derive(Clone, PartialEq, Eq, Debug)]
+pub struct Closed {
+    pub order: Order,
+    pub passes: u32,
 }
 
 /// The variables whose presence makes a later goal wait for this one.
@@ -38,16 +37,6 @@ fn ties_of(clause: &Clause, goal: usize) -> u64 {
     !(independent | ground)
 }
 
-#[inline(always)]
-fn ties(clause: &Clause, from: usize) -> Ties {
-    let mut found = Ties { ties: [0; GOAL_LIMIT], active: 0 };
-    for goal in from..clause.goals {
-        found.ties[goal & 31] = ties_of(clause, goal);
-        found.active |= ((clause.sets[goal & 31] & !clause.ground != 0) as u32) << goal;
-    }
-    found
-}
-
 /// The goals that wait for one of the set `left`, by a wait of their own: what ties a later goal
 /// to one of several is in the union of their ties.
 #[inline(always)]
@@ -62,100 +51,154 @@ pub fn waiting_for(clause: &Clause, left: u32) -> u32 {
     found
 }
 
-/// The goals above `goal` that wait for it.
-#[inline(always)]
-fn waiting(clause: &Clause, ties: &Ties, goal: usize) -> u32 {
-    let tie = ties.ties[goal & 31];
-    let mut row = 0;
-    for later in goal + 1..clause.goals {
-        row |= ((clause.sets[later & 31] & tie != 0) as u32) << later;
+/// Each goal as a set.
+const SINGLE: [u32; GOAL_LIMIT] = {
+    let mut sets = [1; GOAL_LIMIT];
+    let mut goal = 1;
+    while goal < GOAL_LIMIT {
+        sets[goal] = 2 * sets[goal - 1];
+        goal += 1;
     }
-    row
-}
+    sets
+};
 
-pub fn waits(clause: &Clause) -> Order {
-    let ties = ties(clause, 0);
+/// For each goal from `from` on, numbered from 0, the goals that wait for it.
+#[inline(always)]
+fn waits_from(clause: &Clause, from: usize) -> [u32; GOAL_LIMIT] {
     let mut rows = [0; GOAL_LIMIT];
-    for goal in 0..clause.goals {
-        rows[goal & 31] = waiting(clause, &ties, goal);
-    }
-    Order { goals: clause.goals, rows }
-}
-
-/// Without listed pairs and with one ground set for all goals, those that hold a variable not
-/// ground wait for each other.
-#[inline(always)]
-fn is_chain(clause: &Clause) -> bool {
-    clause.pairs == 0 && !clause.wide
-}
-
-#[inline(always)]
-fn chain(active: u32, goal: usize) -> u32 {
-    if active >> goal & 1 == 1 { active & (u32::MAX << goal << 1) } else { 0 }
-}
-
-/// For each goal from `from` on, numbered from 0, the goals that it is before.
-#[inline(always)]
-pub fn after_from(clause: &Clause, from: usize) -> [u32; GOAL_LIMIT] {
-    let ties = ties(clause, from);
-    let mut rows = [0; GOAL_LIMIT];
-    for goal in (from..clause.goals).rev() {
-        rows[goal & 31] = if is_chain(clause) {
-            chain(ties.active, goal)
-        } else {
-            // Waits lead from lower to higher numbers, so the later rows are closed already,
-            // and what a waiting goal is before need not be judged.
-            let tie = ties.ties[goal & 31];
-            let mut row = 0;
-            let mut left = ties.active & (u32::MAX << goal << 1);
-            while left != 0 {
-                let next = left.trailing_zeros() as usize;
-                left &= left - 1;
-                if clause.sets[next] & tie != 0 {
-                    row |= rows[next] | 1 << next;
-                    left &= !rows[next];
-                }
+    // The goals that hold a variable of `ties`; often the next goal's ties are the same.
+    let (mut ties, mut tied) = (0, 0);
+    for goal in from..clause.goals {
+        let own = ties_of(clause, goal);
+        if own != ties {
+            (ties, tied) = (own, 0);
+            let later = goal + 1..clause.goals;
+            for (set, single) in clause.sets[later.clone()].iter().zip(&SINGLE[later]) {
+                tied |= if set & ties != 0 { *single } else { 0 };
             }
-            row
-        };
+        }
+        rows[goal & 31] = tied & (u32::MAX << goal << 1);
     }
     rows
 }
 
+pub fn waits(clause: &Clause) -> Order {
+    Order { goals: clause.goals, rows: waits_from(clause, 0) }
+}
+
+/// For each goal the goals that it waits for.
+#[inline(always)]
+fn waited_for(clause: &Clause) -> [u32; GOAL_LIMIT] {
+    // Neighbours with the same ties are asked as one.
+    let (mut ties, mut tying, mut groups) = ([0; GOAL_LIMIT], [0; GOAL_LIMIT], 0);
+    let mut rows = [0; GOAL_LIMIT];
+    for goal in 0..clause.goals {
+        let set = clause.sets[goal & 31];
+        let mut row = 0;
+        for group in 0..groups {
+            row |= if ties[group & 31] & set != 0 { tying[group & 31] } else { 0 };
+        }
+        rows[goal & 31] = row;
+        let own = ties_of(clause, goal);
+        if groups == 0 || ties[(groups - 1) & 31] != own {
+            ties[groups & 31] = own;
+            groups += 1;
+        }
+        tying[(groups - 1) & 31] |= 1 << goal;
+    }
+    rows
+}
+
+/// Closes the rows of so many goals in passes, each adding what a chain of two standing at its
+/// start gives, up to the first that adds nothing; gives their number. The rows lead to higher
+/// goals if `UP`, else to lower ones.
+///
+/// Three laws of graphs spare work. What is added to a row stands in that of a goal on its side.
+/// A row to which a pass adds nothing holds all that chains of any length lead to: no later pass
+/// adds to it, and whoever has its goal need not ask those in it. And what a pass adds, but for the
+/// first, is behind a goal that the pass before added: the one half-way on a shortest chain.
+#[inline(always)]
+fn close<const UP: bool>(rows: &mut [u32; GOAL_LIMIT], goals: usize) -> u32 {
+    let (leading, mut open) = open_rows::<UP>(rows, goals);
+    let mut added = [0; GOAL_LIMIT];
+    let mut passes = 1;
+    loop {
+        let mut asked = open;
+        while asked != 0 {
+            let goal = end::<UP>(asked);
+            asked ^= 1 << goal;
+            let through = if passes == 1 { rows[goal] } else { added[goal] };
+            added[goal] = behind::<UP>(rows, through & leading, open) & !rows[goal];
+            open ^= ((added[goal] == 0) as u32) << goal;
+        }
+        if open == 0 {
+            return passes;
+        }
+        for goal in Members(open as u64) {
+            rows[goal] |= added[goal];
+        }
+        passes += 1;
+    }
+}
+
+/// The goals that lead to another one, and those of them to whose row something may be added.
+#[inline(always)]
+fn open_rows<const UP: bool>(rows: &[u32; GOAL_LIMIT], goals: usize) -> (u32, u32) {
+    let (mut leading, mut open, mut reached) = (0, 0, 0);
+    for step in 0..goals {
+        let goal = if UP { goals - 1 - step } else { step };
+        let row = rows[goal & 31];
+        leading |= ((row != 0) as u32) << goal;
+        open |= ((row != 0 && reached & !row != 0) as u32) << goal;
+        reached |= row;
+    }
+    (leading, open)
+}
+
+/// What the rows of these goals hold; a row that is not open holds those of the goals in it.
+#[inline(always)]
+fn behind<const UP: bool>(rows: &[u32; GOAL_LIMIT], mut goals: u32, open: u32) -> u32 {
+    let mut sum = 0;
+    while goals != 0 {
+        let goal = start::<UP>(goals);
+        let closed = (open >> goal & 1).wrapping_sub(1);
+        goals &= !(1 << goal | rows[goal] & closed);
+        sum |= rows[goal];
+    }
+    sum
+}
+
+/// Of a set of goals that is not empty the one where rows that lead `UP`, or down, begin.
+#[inline(always)]
+fn start<const UP: bool>(set: u32) -> usize {
+    if UP { set.trailing_zeros() as usize } else { 31 - set.leading_zeros() as usize }
+}
+
+#[inline(always)]
+fn end<const UP: bool>(set: u32) -> usize {
+    if UP { start::<false>(set) } else { start::<true>(set) }
+}
+
 /// For each goal the goals that it is before.
 #[inline(always)]
-pub fn after(clause: &Clause) -> Order {
-    Order { goals: clause.goals, rows: after_from(clause, 0) }
+pub fn after(clause: &Clause) -> Closed {
+    let mut rows = waits_from(clause, 0);
+    let passes = close::<true>(&mut rows, clause.goals);
+    Closed { order: Order { goals: clause.goals, rows }, passes }
 }
 
 /// The goals that one goal is before: goals left of it do not matter.
 #[inline(always)]
 pub fn after_goal(clause: &Clause, goal: usize) -> u32 {
-    after_from(clause, goal)[goal & 31]
+    let mut rows = waits_from(clause, goal);
+    close::<true>(&mut rows, clause.goals);
+    rows[goal & 31]
 }
 
 /// For each goal the goals before it.
 #[inline(always)]
 pub fn before(clause: &Clause) -> [u32; GOAL_LIMIT] {
-    let ties = ties(clause, 0);
-    let mut rows = [0; GOAL_LIMIT];
-    for goal in 0..clause.goals {
-        let active = ties.active >> goal & 1 == 1;
-        let mut left = if active { ties.active & first_goals(goal) } else { 0 };
-        rows[goal & 31] = if is_chain(clause) {
-            left
-        } else {
-            let mut row = 0u32;
-            while left != 0 {
-                let last = 31 - left.leading_zeros() as usize;
-                left ^= 1 << last;
-                if ties.ties[last] & clause.sets[goal & 31] != 0 {
-                    row |= rows[last] | 1 << last;
-                    left &= !rows[last];
-                }
-            }
-            row
-        };
-    }
+    let mut rows = waited_for(clause);
+    close::<false>(&mut rows, clause.goals);
     rows
 }

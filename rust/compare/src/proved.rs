@@ -65,6 +65,9 @@ impl Annotator for Proved {
         let lfj::Order { goals, rows } = lfj::order(record).map_err(refusal)?;
         Ok(Order { goals: goals as usize, rows })
     }
+    fn passes(&self, record: &[u8]) -> Result<u32, Refusal> {
+        lfj::passes(record).map_err(refusal)
+    }
     fn after(&self, record: &[u8], goal: u32) -> Result<u32, Refusal> {
         lfj::after(record, goal).map_err(refusal)
     }

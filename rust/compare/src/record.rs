@@ -18,7 +18,6 @@ pub struct Header {
     pub wide: bool,
     pub goals: usize,
     pub variables: usize,
-    pub pairs: usize,
     pub head: u64,
     pub ground: u64,
 }
@@ -151,7 +150,7 @@ pub fn scan(
     if ground & !head != 0 {
         return Err(Refusal::at(6, 16));
     }
-    let header = Header { wide, goals, variables, pairs, head, ground };
+    let header = Header { wide, goals, variables, head, ground };
     let mut place = match wide {
         true => scan_goals::<true>(bytes, &header, &mut goal)?,
         false => scan_goals::<false>(bytes, &header, &mut goal)?,
@@ -178,12 +177,8 @@ pub fn scan(
 
 /// A record's content.
 pub struct Clause {
-    pub wide: bool,
     pub goals: usize,
-    pub pairs: usize,
     pub head: u64,
-    /// The header's ground set: the least of all.
-    pub ground: u64,
     /// Each goal's variables.
     pub sets: [u64; GOAL_LIMIT],
     /// The ground set just left of each goal.
@@ -216,7 +211,7 @@ impl Clause {
                 listed[higher & 63] |= 1 << (lower & 63);
             },
         )?;
-        let Header { wide, goals, pairs, head, ground, .. } = header;
-        Ok(Clause { wide, goals, pairs, head, ground, sets, grounds, listed })
+        let Header { goals, head, .. } = header;
+        Ok(Clause { goals, head, sets, grounds, listed })
     }
 }

@@ -34,7 +34,7 @@ pub struct Course {
 
 impl Course {
     pub fn of(record: &[u8]) -> Result<Course, Refusal> {
-        let (order, ticks) = (crate::order(record)?, crate::ticks(record)?);
+        let (order, ticks) = (crate::order(record)?.order, crate::ticks(record)?);
         Ok(Course { record: record.to_vec(), order, ticks })
     }
 

@@ -4,6 +4,7 @@
 use compare::build::Parts;
 use compare::cases::Reference;
 use compare::generate::{self, Expression, Random};
+use compare::kit::every_graph;
 use compare::{Refusal, Verdict};
 use std::collections::BTreeSet;
 
@@ -133,7 +134,7 @@ fn hold(parts: &Parts) {
         pairs.filter(|(i, j)| rows[i - 1] >> (j - 1) & 1 == 1).collect()
     };
     assert_eq!(relation(&compare::waits(&record).unwrap().rows), direct);
-    let rows = compare::order(&record).unwrap().rows;
+    let rows = compare::order(&record).unwrap().order.rows;
     assert_eq!(relation(&rows), order);
     for goal in 1..=goals {
         assert_eq!(compare::after(&record, goal as u32), Ok(rows[goal - 1]));
@@ -198,14 +199,8 @@ fn house_form(text: &[u8]) -> Result<(), String> {
 
 #[test]
 fn every_wait_relation_of_up_to_five_goals() {
-    for goals in 1..=5usize {
-        let all: Vec<(usize, usize)> =
-            (1..=goals).flat_map(|i| (i + 1..=goals).map(move |j| (i, j))).collect();
-        for chosen in 0..1u32 << all.len() {
-            let picked = all.iter().enumerate().filter(|(at, _)| chosen >> at & 1 == 1);
-            let waits: Vec<(usize, usize)> = picked.map(|(_, pair)| *pair).collect();
-            hold(&Parts::with_waits(goals, &waits).unwrap());
-        }
+    for goals in 1..=5 {
+        every_graph(goals).for_each(|parts| hold(&parts));
     }
 }
 

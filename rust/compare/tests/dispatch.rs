@@ -21,7 +21,7 @@ struct Clause {
 impl Clause {
     fn of(parts: &Parts) -> Clause {
         let record = parts.record();
-        let Order { goals, rows } = compare::order(&record).unwrap();
+        let Order { goals, rows } = compare::order(&record).unwrap().order;
         let n = goals as u32;
         let before = |i: u32, j: u32| rows[i as usize - 1] >> (j - 1) & 1 == 1;
         let predecessors = (1..=n).map(|j| (1..=n).filter(|i| before(*i, j)).collect()).collect();
@@ -145,7 +145,7 @@ impl Clause {
         let heaviest = (1..=self.n).map(|goal| self.heaviest_from(goal)).max().unwrap_or(0);
         assert!(k * last <= total + (k - 1) * heaviest, "{k} heads: {last}, {total}, {heaviest}");
         assert!(last <= total && last >= heaviest && k * last >= total);
-        let order = compare::order(&self.record).unwrap();
+        let order = compare::order(&self.record).unwrap().order;
         assert_eq!(compare::heaviest(&order, &compare::ticks(&self.record).unwrap()), heaviest);
     }
 }

@@ -48,6 +48,9 @@ impl Annotator for Careless {
     fn order(&self, record: &[u8]) -> Result<Order, Refusal> {
         Reference.order(record)
     }
+    fn passes(&self, record: &[u8]) -> Result<u32, Refusal> {
+        Reference.passes(record)
+    }
     fn after(&self, record: &[u8], goal: u32) -> Result<u32, Refusal> {
         Reference.after(record, goal)
     }

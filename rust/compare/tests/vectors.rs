@@ -5,7 +5,7 @@ use std::path::PathBuf;
 
 #[test]
 fn the_reference_agrees_with_every_vector() {
-    let default = concat!(env!("CARGO_MANIFEST_DIR"), "/../../kit/vectors/after-04.txt");
+    let default = concat!(env!("CARGO_MANIFEST_DIR"), "/../../kit/vectors/after-05.txt");
     let path = std::env::var_os("VECTORS").map_or(PathBuf::from(default), PathBuf::from);
     let text = std::fs::read_to_string(&path).unwrap_or_else(|e| panic!("{}: {e}", path.display()));
     let tally = run(&Reference, &text, |line, question, expected, given| {
@@ -14,5 +14,5 @@ fn the_reference_agrees_with_every_vector() {
     .unwrap();
     println!("{tally:?}");
     assert_eq!((tally.differ, tally.skipped), (0, 0));
-    assert!(tally.agree >= 1777);
+    assert!(tally.agree >= 1444);
 }

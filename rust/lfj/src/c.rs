@@ -30,6 +30,8 @@ unsafe extern "C" {
     pub fn lfj_check(record: *const u8, n: usize, text: *const u8, m: usize) -> u64;
     /// The goal count. Row g - 1: the goals that wait for goal g.
     pub fn lfj_order(record: *const u8, n: usize, rows: *mut [u32; 32]) -> u64;
+    /// The number of passes, 1 to 6.
+    pub fn lfj_passes(record: *const u8, n: usize) -> u64;
     /// The variable count; the head set at `head`.
     pub fn lfj_head(record: *const u8, n: usize, head: *mut u64) -> u64;
     /// The goal count. Place g - 1: the variables of goal g.

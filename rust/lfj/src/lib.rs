@@ -69,6 +69,9 @@ pub const GOAL_TEXT_LIMIT: usize = 24;
 /// The most ticks of a goal; the least is 1.
 pub const TICK_LIMIT: u16 = 60_000;
 
+/// The most passes that close the waits of a clause; the least is 1.
+pub const PASS_LIMIT: u32 = 6;
+
 /// The longest fork-join expression in house form, in bytes.
 pub const FORM_LIMIT: usize = 146;
 
@@ -144,6 +147,26 @@ pub fn order(record: &[u8]) -> Result<Order, Refusal> {
     Ok(Order { goals: accepted(word)? as u32, rows })
 }
 
+/// How many passes close the waits to the [`order`]: 1 to [`PASS_LIMIT`].
+///
+/// A pass adds exactly those waits that a chain of two waits standing at its start gives. The last
+/// one adds none, and counts; so the number is 1 exactly if the waits were closed already.
+///
+/// ```
+/// // Each goal waits for the one before it: by v0, by v1, by v2.
+/// let clause = lfj::Clause::new(3).goal("a", [0]).goal("b", [0, 1]).goal("c", [1, 2]);
+/// let clause = clause.goal("d", [2]).independent(0, 1).independent(0, 2).independent(1, 2);
+/// // The first pass adds 1-3 and 2-4, the second 1-4, the third nothing.
+/// assert_eq!(lfj::passes(&clause.record()?)?, 3);
+/// # Ok::<(), lfj::ClauseError>(())
+/// ```
+#[inline]
+pub fn passes(record: &[u8]) -> Result<u32, Refusal> {
+    // SAFETY: a slice's pointer is not null and its bytes may be read.
+    let word = unsafe { c::lfj_passes(record.as_ptr(), record.len()) };
+    Ok(accepted(word)? as u32)
+}
+
 /// The facts of a record in one answer.
 ///
 /// ```
@@ -171,7 +194,7 @@ pub fn facts(record: &[u8]) -> Result<Facts, Refusal> {
     Ok(facts)
 }
 
-/// The version of the library that is linked: 10400 for 1.4.0.
+/// The version of the library that is linked: 10500 for 1.5.0.
 pub fn version() -> u32 {
     // SAFETY: it takes nothing and only answers.
     unsafe { c::lfj_version() }

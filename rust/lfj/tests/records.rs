@@ -49,6 +49,18 @@ fn the_order_has_the_rows_of_after() {
 }
 
 #[test]
+fn passes_of_every_record() {
+    let mut met = [false; lfj::PASS_LIMIT as usize + 1];
+    for record in records() {
+        let passes = lfj::passes(&record);
+        assert_eq!(passes.map(|_| ()), lfj::read(&record).map(|_| ()), "{record:?}");
+        met[passes.unwrap_or(0) as usize] = true;
+    }
+    // 0 stands for a record that is refused.
+    assert_eq!(met, [true; lfj::PASS_LIMIT as usize + 1]);
+}
+
+#[test]
 fn forms_as_trees() {
     for record in records() {
         let text = lfj::form_text(&record);

@@ -21,7 +21,7 @@ usage: differences [CASES [SEED]]     200000 cases and seed 1 if not given
        differences --case 'LINE'      both answers to one question in the kit's format
 The proved annotator against the hand-written one, on seeded cases.
 Status 0 if there is no difference and every refusal, each reason of 20 alone, every verdict, form
-and no form was met, and runs of the dispatcher.
+and no form, each number of passes was met, and runs of the dispatcher.
 ";
 
 /// Bytes on each side of a lent buffer that nobody may change.
@@ -34,6 +34,8 @@ const HEAD_MARGIN: usize = 8;
 /// The most ticks of a run that is compared tick by tick; a longer one is compared in those ticks
 /// in which something besides work may happen.
 const WHOLE_RUN: u32 = 400;
+/// The most passes that close a clause's waits.
+const PASS_LIMIT: usize = lfj::PASS_LIMIT as usize;
 /// After this many differences the run ends.
 const ENOUGH: usize = 10;
 
@@ -89,6 +91,8 @@ struct Met {
     differs: usize,
     form: usize,
     no_form: usize,
+    /// Accepted records by their number of passes.
+    passes: [usize; PASS_LIMIT],
     /// Ticks that are accepted, and those that 20 refuses for one reason alone.
     ticks: usize,
     reasons: [usize; REASONS.len()],
@@ -116,6 +120,9 @@ impl Met {
             ("runs".to_string(), self.runs),
             ("runs tick by tick".to_string(), self.whole_runs),
         ];
+        for (number, count) in (1..).zip(self.passes) {
+            all.push((format!("passes {number}"), count));
+        }
         for number in 1..self.refusals.len() {
             all.push((format!("refusal {number}"), self.refusals[number]));
         }
@@ -201,7 +208,10 @@ impl Run {
     }
 
     fn case(&mut self, random: &mut Random) {
-        let mut parts = generate::clause(random);
+        let mut parts = match random.chance(1, 16) {
+            true => generate::chained(random),
+            false => generate::clause(random),
+        };
         let record = match random.chance(3, 8) {
             true => generate::damaged(random, &parts),
             false => parts.record(),
@@ -218,6 +228,7 @@ impl Run {
         self.met.records += 1;
         self.met.accepted += read.is_ok() as usize;
         self.met.wide += (read.is_ok() && record[4] == 2) as usize;
+        self.passes(record);
         for _ in 0..3 {
             let goal = goal_number(random, goals);
             let question = |name: &str| format!("{name} {LANDED} {} {goal}", hex(record));
@@ -255,6 +266,19 @@ impl Run {
                 Ok(Verdict::Differs(..)) => self.met.differs += 1,
                 Err(_) => (),
             }
+        }
+    }
+
+    /// The number of passes, counted.
+    fn passes(&mut self, record: &[u8]) {
+        let question = || format!("passes {LANDED} {}", hex(record));
+        let (proved, hand) = (Proved.passes(record), Reference.passes(record));
+        let answer = self.hold(proved, hand, question);
+        // SAFETY: a slice's pointer is not null and its bytes may be read.
+        let given = unsafe { c::lfj_passes(record.as_ptr(), record.len()) };
+        self.hold_word(given, word(answer), question);
+        if let Ok(passes) = answer {
+            self.met.passes[passes as usize - 1] += 1;
         }
     }
 
@@ -463,6 +487,7 @@ fn words(question: &str) -> Option<(u64, u64)> {
     // SAFETY of all calls: the pointers are those of vectors, and the buffer is one of its own.
     Some(match fields[0] {
         "read" => (unsafe { c::lfj_read(start, n) }, word(Reference.read(&record))),
+        "passes" => (unsafe { c::lfj_passes(start, n) }, word(Reference.passes(&record))),
         "after" => {
             let goal = number()?;
             (unsafe { c::lfj_after(start, n, goal) }, word(Reference.after(&record, goal)))

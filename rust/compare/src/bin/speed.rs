@@ -88,11 +88,16 @@ const ORDER: Operation = Operation {
     name: "order",
     proved: |i| unsafe { c::lfj_order(i.record.as_ptr(), i.record.len(), &mut i.rows) },
     hand: |i| {
-        word(compare::order(&i.record).map(|order| {
-            i.rows = order.rows;
-            order.goals as u64
+        word(compare::order(&i.record).map(|closed| {
+            i.rows = closed.order.rows;
+            closed.order.goals as u64
         }))
     },
+};
+const PASSES: Operation = Operation {
+    name: "passes",
+    proved: |i| unsafe { c::lfj_passes(i.record.as_ptr(), i.record.len()) },
+    hand: |i| word(compare::passes(&i.record)),
 };
 /// The call of the library for its one row alone: the hand-written side leaves out the
 /// goals left of it.
@@ -355,6 +360,14 @@ fn lines() -> Vec<Line> {
         more(operation, "a chain, no facts listed", input(&shared, None, 160));
         more(operation, "a chain of 16 beside 16 goals", input(&beside, None, 160));
     }
+    // The chain of 22 goals that takes six passes, and half of its length.
+    for goals in [12, 22] {
+        let waits: Vec<(usize, usize)> = (1..goals).map(|goal| (goal, goal + 1)).collect();
+        let chain = Parts::with_waits(goals, &waits).expect("few pairs");
+        for operation in [&ORDER, &PASSES, &FORM, &CHECK] {
+            more(operation, "each waits for the one before", input(&chain, None, 160));
+        }
+    }
     more(&FORM, "buffer of 0 bytes", input(&Parts::longest_form(), None, 0));
     let long = Parts::longest_mel();
     more(&MEL, "192,127 bytes", input(&long, None, 192_127));
@@ -367,7 +380,7 @@ fn lines() -> Vec<Line> {
     let deep = [vec![b'('; 32], b"1".to_vec(), vec![b')'; 32]].concat();
     let one = Parts::with_waits(1, &[]).expect("no pairs");
     more(&CHECK, "32 open parentheses", input(&one, Some(&deep), 0));
-    lines.extend(typical(&AFTER));
+    lines.extend([&AFTER, &PASSES].into_iter().flat_map(typical));
     lines
 }
 

@@ -76,6 +76,11 @@ const CALLS: &[Call] = &[
     ("order, version 2, 1,910 bytes", || {
         lfj::order(&longest_wide_record()).is_ok_and(|order| order.rows[0] == u32::MAX - 1)
     }),
+    ("passes, version 2, 1,910 bytes", || lfj::passes(&longest_wide_record()) == Ok(1)),
+    ("passes, six of a chain of 24 goals", || {
+        let waits: Vec<(usize, usize)> = (1..24).map(|goal| (goal, goal + 1)).collect();
+        Parts::with_waits(24, &waits).is_some_and(|chain| lfj::passes(&chain.record()) == Ok(6))
+    }),
     ("facts, version 2, 1,910 bytes", || {
         lfj::facts(&longest_wide_record()).is_ok_and(|facts| facts.goals == 32)
     }),

@@ -228,6 +228,11 @@ fn high_goals(lines: &mut Lines) {
         lines.check(&none, &one_sequence(goal, 32));
         lines.check(&none, &one_sequence(32, goal));
     }
+    lines.note("32-through-another", "goal 32 is behind goal 1 through another one alone");
+    for goal in 2..=31 {
+        let parts = among(&[1, goal, 32], &[(1, goal), (goal, 32)]);
+        assert_eq!(lines.check(&parts, &form_of(&parts)), "same");
+    }
     lines.note("each-variable", "goals 1 and 3 share a variable; a pair of it is listed");
     for x in 0..64 {
         let mut parts = Parts::over(64, &[1 << x, 0, 1 << x]);

@@ -1,7 +1,7 @@
 //! The dispatcher: start, tick, refusal 20, whole runs.
 
 use super::paper::whole_case;
-use super::record::FAULTS;
+use super::record::faulty_records;
 use super::{Lines, among, every_order, waiting};
 use crate::build::Parts;
 use crate::cases::dispatched;
@@ -71,23 +71,6 @@ fn with_head(heads: &[Pair], at: usize, head: Pair) -> Vec<Pair> {
     let mut changed = heads.to_vec();
     changed[at] = head;
     changed
-}
-
-/// The whole case with each fault of its record.
-fn faulty_records() -> Vec<Vec<u8>> {
-    let record = whole_case().record();
-    let mut faulty: Vec<Vec<u8>> = [0, 23, 36, 66].map(|length| record[..length].to_vec()).into();
-    faulty.push([&record[..], b"!"].concat());
-    for (_, fault) in FAULTS {
-        let mut changed = record.clone();
-        fault.iter().for_each(|(place, value)| changed[*place] = *value);
-        faulty.push(changed);
-    }
-    let mut parts = whole_case().lasting(&[1, 1, 0]);
-    faulty.push(parts.record());
-    parts.facts[2].ticks = TICK_LIMIT + 1;
-    faulty.push(parts.record());
-    faulty
 }
 
 pub(super) fn starts() -> Lines {

@@ -5,6 +5,7 @@ mod check;
 mod dispatch;
 mod order;
 mod paper;
+mod passes;
 mod record;
 mod texts;
 mod version_2;
@@ -71,6 +72,10 @@ impl Lines {
 
     fn order(&mut self, parts: &Parts) {
         self.ask(format!("order {LANDED} {}", hex(&parts.record())));
+    }
+
+    fn passes(&mut self, parts: &Parts) -> String {
+        self.ask(format!("passes {LANDED} {}", hex(&parts.record())))
     }
 
     fn form(&mut self, parts: &Parts, room: usize) -> String {
@@ -141,19 +146,23 @@ fn all_pairs(goals: usize) -> Vec<(usize, usize)> {
 
 /// One clause for each order on so many goals that waits can give.
 pub fn every_order(goals: usize) -> Vec<Parts> {
-    let all = all_pairs(goals);
     let mut seen = HashSet::new();
-    let mut clauses = Vec::new();
-    for chosen in 0..1u32 << all.len() {
+    let order = |parts: &Parts| crate::order(&parts.record()).expect("well formed").order;
+    every_graph(goals).filter(|parts| seen.insert(order(parts).rows)).collect()
+}
+
+/// The waits of so many goals of which each waits for the one before it.
+fn chain(goals: usize) -> Vec<(usize, usize)> {
+    (1..goals).map(|i| (i, i + 1)).collect()
+}
+
+/// A clause for each graph of waits on so many goals.
+pub fn every_graph(goals: usize) -> impl Iterator<Item = Parts> {
+    let all = all_pairs(goals);
+    (0..1u32 << all.len()).map(move |chosen| {
         let picked = all.iter().enumerate().filter(|(at, _)| chosen >> at & 1 == 1);
-        let waits: Vec<(usize, usize)> = picked.map(|(_, pair)| *pair).collect();
-        let parts = Parts::with_waits(goals, &waits).expect("few pairs");
-        let order = crate::order(&parts.record()).expect("well formed");
-        if seen.insert(order.rows) {
-            clauses.push(parts);
-        }
-    }
-    clauses
+        waiting(goals, &picked.map(|(_, pair)| *pair).collect::<Vec<_>>())
+    })
 }
 
 /// A clause in which just these goals wait.
@@ -189,6 +198,7 @@ pub fn files() -> Vec<File> {
         version_2::facts(),
         order::two_goals(),
         order::closure(),
+        passes::passes(),
         order::forms(),
         order::no_form(),
         order::length(),

@@ -1,6 +1,6 @@
 //! The waiting order, the form and its length.
 
-use super::{Lines, among, every_order, waiting};
+use super::{Lines, among, chain, every_graph, every_order, waiting};
 use crate::build::Parts;
 use crate::generate::Random;
 
@@ -46,6 +46,14 @@ pub(super) fn two_goals() -> Lines {
     }
     each_variable(&mut lines);
     lines
+        .note("listed-with-all", "a variable that is listed with all 63 others ties its own goals");
+    for x in [0, 1, 31, 32, 62, 63] {
+        let mut parts = Parts::over(64, &[1 << x, 1 << x, u64::MAX ^ 1 << x]);
+        parts.pairs = (0..64).filter(|y| *y != x).map(|y| (x.min(y), x.max(y))).collect();
+        lines.order(&parts);
+        lines.check(&parts, b"(1,2)&3");
+    }
+    lines
 }
 
 /// Each of 64 variables.
@@ -64,17 +72,11 @@ pub(super) fn closure() -> Lines {
     let mut lines = Lines::new("order", "The record's order: chains of waits.");
     lines.note("up-to-four", "all waits of up to four goals");
     for goals in 1..=4usize {
-        let all = super::all_pairs(goals);
-        for chosen in 0..1u32 << all.len() {
-            let picked = all.iter().enumerate().filter(|(at, _)| chosen >> at & 1 == 1);
-            let waits: Vec<_> = picked.map(|(_, pair)| *pair).collect();
-            lines.order(&waiting(goals, &waits));
-        }
+        every_graph(goals).for_each(|parts| lines.order(&parts));
     }
     lines.note("chains", "long chains");
     for goals in [5, 8, 16, 22] {
-        let chain: Vec<_> = (1..goals).map(|i| (i, i + 1)).collect();
-        lines.order(&waiting(goals, &chain));
+        lines.order(&waiting(goals, &chain(goals)));
         let two: Vec<_> = (1..goals - 1).map(|i| (i, i + 2)).collect();
         lines.order(&waiting(goals, &two));
     }
@@ -113,8 +115,7 @@ pub(super) fn forms() -> Lines {
     lines.note("two-digits", "10 goals and more: two digits");
     for goals in [9, 10, 11, 22] {
         lines.form(&waiting(goals, &[]), 146);
-        let chain: Vec<_> = (1..goals).map(|i| (i, i + 1)).collect();
-        lines.form(&waiting(goals, &chain), 146);
+        lines.form(&waiting(goals, &chain(goals)), 146);
         lines.form(&waiting(goals, &[(1, goals)]), 146);
         lines.form(&waiting(goals, &[(goals - 1, goals)]), 146);
     }

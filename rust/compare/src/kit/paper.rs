@@ -244,9 +244,9 @@ pub(super) fn samples() -> Lines {
 pub(super) fn mixed() -> Lines {
     let mut lines =
         Lines::new("mixed", "Seeded records and texts, valid and damaged, every operation.");
-    lines.note("seeded", "400 questions");
+    lines.note("seeded", "450 questions");
     let mut random = Random::new(7);
-    for case in 0..400 {
+    for case in 0..450 {
         let mut record = loop {
             let record = generate::parts(&mut random).record();
             if record.len() < 900 {
@@ -264,6 +264,7 @@ pub(super) fn mixed() -> Lines {
         }
         let record = hex(&record);
         let question = match case % 8 {
+            _ if case >= 400 => format!("passes {LANDED} {record}"),
             0 => format!("order {LANDED} {record}"),
             1 => format!("form {LANDED} {record} {}", generate::room(&mut random, length)),
             2 => format!("length {LANDED} {record}"),

@@ -2,6 +2,7 @@
 
 use super::paper::whole_case;
 use super::{Lines, waiting};
+use crate::TICK_LIMIT;
 use crate::build::Parts;
 use crate::cases::LANDED;
 
@@ -209,6 +210,23 @@ pub(super) const FAULTS: [(u8, &[(usize, u8)]); 13] = [
     (10, &[(66, 1)]),
 ];
 
+/// The whole case with each fault of its record.
+pub(super) fn faulty_records() -> Vec<Vec<u8>> {
+    let record = whole_case().record();
+    let mut faulty: Vec<Vec<u8>> = [0, 23, 36, 66].map(|length| record[..length].to_vec()).into();
+    faulty.push([&record[..], b"!"].concat());
+    for (_, fault) in FAULTS {
+        let mut changed = record.clone();
+        fault.iter().for_each(|(place, value)| changed[*place] = *value);
+        faulty.push(changed);
+    }
+    let mut parts = whole_case().lasting(&[1, 1, 0]);
+    faulty.push(parts.record());
+    parts.facts[2].ticks = TICK_LIMIT + 1;
+    faulty.push(parts.record());
+    faulty
+}
+
 pub(super) fn which_first() -> Lines {
     let mut lines = Lines::new(
         "record-which-first",
@@ -243,6 +261,7 @@ pub(super) fn which_first() -> Lines {
     for question in [
         format!("waits {LANDED} {bad}"),
         format!("order {LANDED} {bad}"),
+        format!("passes {LANDED} {bad}"),
         format!("form {LANDED} {bad} 0"),
         format!("length {LANDED} {bad}"),
         format!("mel {LANDED} {bad} 0"),
