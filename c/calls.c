@@ -346,12 +346,12 @@ static struct lent chain_record(unsigned goals)
 /* The passes of chains: from these numbers of goals on one more. */
 static void test_passes(void)
 {
-    static const unsigned from[LFJ_PASSES_MAX] = {1, 3, 4, 6, 10, 18};
+    static const unsigned from[LFJ_PASS_MAX] = {1, 3, 4, 6, 10, 18};
     unsigned wanted = 0;
     unsigned goals;
     for (goals = 1; goals <= 24; goals++) {
         struct lent record = chain_record(goals);
-        wanted += wanted < LFJ_PASSES_MAX && goals == from[wanted];
+        wanted += wanted < LFJ_PASS_MAX && goals == from[wanted];
         hold(lfj_passes(record.bytes, record.length) == wanted, "a chain", "lfj_passes");
         hold(lfj_passes(record.bytes, record.length - (goals > 2 ? 1 : 0))
                  == (goals > 2 ? refusal_word(LFJ_CUT_OFF, record.length - 1) : wanted),

@@ -30,7 +30,7 @@ static void test_answers(void)
     hold(lfj_refusal(accepted) == LFJ_ACCEPTED && lfj_goal_count(accepted) == 32,
          "an accepted read");
     hold(lfj_variable_count(64) == 64, "a variable count");
-    hold(lfj_pass_count(LFJ_PASSES_MAX) == 6, "a number of passes");
+    hold(lfj_pass_count(LFJ_PASS_MAX) == 6, "a number of passes");
     hold(lfj_goal_set(after) == UINT32_C(0x80000001), "a set of goals");
     hold(lfj_ended(after) == UINT32_C(0x80000001) && lfj_ended(refused) == 0,
          "the set of ended goals");

@@ -60,7 +60,7 @@ extern "C" {
 /* The most ticks of a goal; the least is 1. */
 #define LFJ_TICK_MAX 60000
 /* The most passes that close the waits of a clause; the least is 1. */
-#define LFJ_PASSES_MAX 6
+#define LFJ_PASS_MAX 6
 /* The longest form, in bytes: a buffer of this size is never too short. */
 #define LFJ_FORM_MAX 146
 /* A bound on the MEL annotation, in bytes: a buffer of this size is never too short,
@@ -122,7 +122,7 @@ uint64_t lfj_order(const uint8_t *record, size_t n, uint32_t rows[LFJ_GOAL_MAX])
 /*
  * How many passes close the waits to that order. A pass adds exactly those waits that a
  * chain of two waits standing at its start gives; the last one adds none, and counts.
- * Accepted: the number, 1 to LFJ_PASSES_MAX; 1 exactly if the waits were closed already.
+ * Accepted: the number, 1 to LFJ_PASS_MAX; 1 exactly if the waits were closed already.
  */
 uint64_t lfj_passes(const uint8_t *record, size_t n);
 

@@ -28,10 +28,11 @@ readOutcome (Refused r) = refused (r .number) (r .place)
 unfoldable pub orderGraph : List ℕ → Graph
 orderGraph b = values (edgeless 0) (readThen b (accepted (Order.order b))) .value
 
--- 02, 5: "Beside it the closure gives the number of passes"; of a refused record 0
+-- 02, 5: "Beside it the closure gives the number of passes"
 unfoldable pub passes : List ℕ → Outcome ℕ
 passes b = readThen b (accepted (Order.passCount b))
 
+-- the number alone, which is 0 of a refused record
 unfoldable pub orderPasses : List ℕ → ℕ
 orderPasses b = values 0 (passes b) .value
 

@@ -18,8 +18,8 @@
 // check(bytes, text)      "same", or "differs" with the first i, then j                        reading, 15, 16, 17  Answers.check; expression_grammar: Check
 //
 // The definitions are those of specs/ here, or of the crate named before a colon. Rows past n are empty, and a refused record's graph is the empty one of
-// 0 goals, with 0 passes. Behind its text `out` is kept. With any refusal, which find_text names, the part is the empty one at the record's start. For i and j just one
-// of the two orders, the record's and the text's, has i before j.
+// 0 goals, with 0 passes. Behind its text `out` is kept. With any refusal, which find_text names, the part is the empty one at the record's start. For i
+// and j just one of the two orders, the record's and the text's, has i before j.
 use graph::Graph;
 use order_compare::Verdict;
 use record_rules::Reading;

@@ -48,7 +48,7 @@ module _ (n : ℕ) where
       (ahead-in m 1 k (omega arith) (omega arith) (omega arith) (omega arith)) (ahead-in m k (suc k) (omega arith) (omega arith) (omega arith) (omega arith)) in
       absurd (omega (arith, ahead-out m 1 (suc k) r .1))
 
-  pub neighbours-passes : (m : ℕ) → 2 ^ m + 1 < n → n ≤ 2 ^ suc m + 1 → passes n neighbours ≡ suc (suc m)
+  neighbours-passes : (m : ℕ) → 2 ^ m + 1 < n → n ≤ 2 ^ suc m + 1 → passes n neighbours ≡ suc (suc m)
   neighbours-passes m l h = passes-only n neighbours (suc (suc m)) (omega arith) (none-in n neighbours (suc m) (all-there (suc m) h)) adds
     where
       adds : (k : ℕ) → 1 ≤ k → k < suc (suc m) → addsNone n neighbours k ≡ false

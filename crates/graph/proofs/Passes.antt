@@ -1,11 +1,11 @@
 -- Closing in passes: a pass adds exactly what a chain of two waits gives, the chains stay the same, and where a pass adds none they are all there.
 use mathlib.Core.Path.{_≡_, refl, sym, ap, ap₂, _∙_}
-use mathlib.Core.Bool.{Bool, true, false, _&&_, _||_, Bool·beq, true≢false, or-true}
+use mathlib.Core.Bool.{Bool, true, false, _&&_, _||_, Bool·beq, or-true}
 use mathlib.Core.Logic.{_⊎_, inl, inr, ⊎-elim, _↔_}
 use Prim.Native.Nat.{ℕ, zero, suc, _≤_}
 use native.Mathlib.Omega.{arith}
 use Rattle.logic.specs.Quantifiers.{every, someBelow}
-use Rattle.logic.proofs.Bools.{iff, and-true, or-true as or-cases, beq-true, beq-same}
+use Rattle.logic.proofs.Bools.{iff, and-true, or-true as or-cases, beq-true, beq-same, clash}
 use Rattle.logic.proofs.Quantifiers.{every-in, every-out, every-not, below-in, below-out, some-cong}
 use Rattle.graph.specs.Closure.{Chain, wait, link, closed}
 use Rattle.graph.specs.Passes.{pass, after, sameWaits, ClosedWaits}
@@ -41,7 +41,7 @@ module _ (n : ℕ) (W : ℕ → ℕ → Bool) where
       (or-cases (W i j) (someBelow n (two i j)) e)
 
   -- 02: "each adding exactly those waits that a chain of two waits standing at its start gives"
-  pub pass-exactly : (i j : ℕ) → (pass n W i j ≡ true) ↔ ((W i j ≡ true) ⊎ ((k : ℕ) × Goal n k × (W i k ≡ true) × (W k j ≡ true)))
+  pub pass-exactly : (i j : ℕ) → (pass n W i j ≡ true) ↔ ((W i j ≡ true) ⊎ ((k : ℕ) × ((1 ≤ k) × (k ≤ n)) × (W i k ≡ true) × (W k j ≡ true)))
   pass-exactly i j = (pass-only i j, ⊎-elim (pass-keeps i j) (λ r. pass-adds i (r .0) j (r .1) (r .2) (r .3)))
 
   -- so it has the chains that there were
@@ -118,7 +118,4 @@ module _ (n : ℕ) (U X : ℕ → ℕ → Bool) where
   same-not e =
       let r = every-not n (λ i. every n (at i)) e in
       let s = every-not n (at (r .0)) (r .2) in
-      (suc (r .0), suc (s .0), (omega arith, r .1), (omega arith, s .1), λ q. differ (U (suc (r .0)) (suc (s .0))) (X (suc (r .0)) (suc (s .0))) (s .2) q)
-    where
-      differ : (p q : Bool) → Bool·beq p q ≡ false → p ≡ q → ⊥
-      differ p q e s = true≢false (sym (beq-same p q s) ∙ e)
+      (suc (r .0), suc (s .0), (omega arith, r .1), (omega arith, s .1), λ q. clash (beq-same (U (suc (r .0)) (suc (s .0))) (X (suc (r .0)) (suc (s .0))) q) (s .2))

@@ -60,9 +60,6 @@ row-out w n R i j h e =
     dite (decLt i n) (λ l. (l, lj, sym (rows-say w n R (suc i) (suc j) h (omega arith) l (omega arith) lj) ∙ e))
     (λ l. absurd (false≢true (sym (ap (λ (m : ℕ). has m j) (row-past w n R i (omega arith)) ∙ has-empty j) ∙ e)))
 
-pub row-in : (w n : ℕ) (R : ℕ → ℕ → Bool) (i j : ℕ) → n ≤ w → i < n → j < n → R (suc i) (suc j) ≡ true → has (getD (rowsOf w n R) i 0) j ≡ true
-row-in w n R i j h li lj e = rows-say w n R (suc i) (suc j) h (omega arith) li (omega arith) lj ∙ e
-
 -- rows that say the same on the goals, and nothing else, are those of the relation
 pub rows-ext : (w n : ℕ) (R : ℕ → ℕ → Bool) (l : List ℕ) → n ≤ w → length l ≡ w → ((i : ℕ) → i < n → getD l i 0 < 2 ^ n)
     → ((i j : ℕ) → 1 ≤ i → i ≤ n → 1 ≤ j → j ≤ n → ahead l i j ≡ R i j) → ((i : ℕ) → i < w → n ≤ i → getD l i 0 ≡ 0) → l ≡ rowsOf w n R

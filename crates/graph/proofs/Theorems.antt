@@ -98,7 +98,7 @@ module _ (n : ℕ) (W : ℕ → ℕ → Bool) where
       dite (decLt (suc m) (passes n W)) (λ l. clash (none-in m (after-closes n m W h)) (passes-lowest .none-below (suc m) (omega arith) l)) (λ l. omega arith)
 
   -- 02: "The order stays the same": what they come to is the chains of waits
-  pub passes-close : (i j : ℕ) → Goal n i → Goal n j → after n W (passes n W) i j ≡ closed W n i j
+  pub passes-close : (i j : ℕ) → (1 ≤ i) × (i ≤ n) → (1 ≤ j) × (j ≤ n) → after n W (passes n W) i j ≡ closed W n i j
   passes-close = at (passes n W) passes-lowest
     where
       at : (k : ℕ) → Lowest (addsNone n W) (suc n) k → Agree n (after n W k) (closed W n)

@@ -27,7 +27,7 @@ abbrev pub addsNone : ℕ → (ℕ → ℕ → Bool) → ℕ → Bool
 addsNone n W zero = false
 addsNone n W (suc k) = sameWaits n (after n W (suc k)) (after n W k)
 
--- "and end with the first that adds none": the number of passes. Pass n + 1 adds none at the latest; `passes-first` of proofs/Passes has it in words.
+-- "and end with the first that adds none": the number of passes. Pass n + 1 adds none at the latest; `passes-first` of proofs/Theorems has it in words.
 unfoldable pub passes : ℕ → (ℕ → ℕ → Bool) → ℕ
 passes n W = lowest (addsNone n W) (suc n)
 
@@ -47,7 +47,7 @@ ClosedWaits n W =
 abbrev pub passLimit : ℕ
 passLimit = 6
 
--- each goal waits for the one before it alone: of 18 goals on such waits take 6 passes (`limit-reached` of proofs/Neighbours)
+-- each goal waits for the one before it alone: such waits of 18 to 32 goals take 6 passes (`limit-reached` of proofs/Neighbours)
 abbrev pub neighbours : ℕ → ℕ → Bool
 neighbours i j = eqb (suc i) j
 

@@ -55,24 +55,23 @@ impl Graph {
         self.rows[i]
     }
 
-    // The closure, in passes up to the first that adds none, and their number.
+    // The closure, in passes up to the first that adds none, and their number. The last that there can be adds none.
     pub fn closed(mut self) -> Closed
         requires { ⌜ C.IsGraph self ⌝ }
         ensures { λ r. ⌜ r ≡ P.closedOf self ⌝ }
     {
         let n = self.n;
         let all = sets::below32(n);
-        let mut passes = 0u32;
-        for k in 1..=Graph::PASSES {
-            passes = k;
+        let mut passes = 1u32;
+        loop {
             let still = pass(&mut self.rows, n);
-            if still == all {
-                break;
+            if (still == all) | (passes == Graph::PASSES) {
+                let rows = self.rows;
+                let graph = Graph { n, rows };
+                return Closed { graph, passes };
             }
+            passes += 1;
         }
-        let rows = self.rows;
-        let graph = Graph { n, rows };
-        Closed { graph, passes }
     }
 }
 

@@ -15,13 +15,13 @@ use Rattle.sets.proofs.Membership.{has-empty, none-empty}
 use Rattle.sets.proofs.Builder.{has-setOf, setOf-more}
 use Rattle.graph.specs.Graph.{ahead, goalsOf, rowsOf, Within, transposed}
 use Rattle.graph.proofs.Rows.{row-out}
-use Rattle.graph_transpose.specs.Adding.{rowWith, added}
+use Rattle.graph_transpose.specs.Adding.{rowAdded, added}
 
 -- nothing is added to the rows of no goal
 pub added-none : (w to one : ℕ) (rows : List ℕ) → length rows ≡ w → to ≡ 0 → rows ≡ added w to one rows
 unfolding added
 added-none w to one rows s z =
-    table-ext w w (rowWith to one rows) rows s
+    table-ext w w (rowAdded to one rows) rows s
     (λ j b l. sym (ap (λ (t : Bool). cond t (union (getD rows j 0) one) (getD rows j 0)) (ap (λ (m : ℕ). has m j) z ∙ has-empty j)))
     (λ j b l. absurd (omega arith))
 
@@ -46,7 +46,7 @@ module _ (w : ℕ) (rows : List ℕ) where
   unfolding added
   turned-more i now next one h e q =
       q
-      ∙ table-cong w w (rowWith (getD rows i 0) one now) (before (i + 1))
+      ∙ table-cong w w (rowAdded (getD rows i 0) one now) (before (i + 1))
       (λ j b.
       ap₂ (λ (r m : ℕ). cond (has (getD rows i 0) j) (union r m) r) (ap (λ (l : List ℕ). getD l j 0) h ∙ table-at w w (before i) j b b) e
       ∙ sym (ap (λ (k : ℕ). before k j) (add-one i) ∙ setOf-more i (λ k. has (getD rows k 0) j)))

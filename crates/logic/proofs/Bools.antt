@@ -8,7 +8,7 @@
 --     cond-le, cond-mono                         a test as the number 1 or 0
 --     iff, beq-true, beq-false, beq-same, either, not-self     two tests against each other
 use mathlib.Core.Path.{_≡_, refl, sym, ap, ap₂, _∙_}
-use mathlib.Core.Bool.{Bool, true, false, not, _&&_, _||_, cond, true≢false, false≢true, Bool·beq, Bool·not-not}
+use mathlib.Core.Bool.{Bool, true, false, not, _&&_, _||_, cond, true≢false, false≢true, Bool·beq}
 use mathlib.Core.Logic.{_⊎_, inl, inr, ⊎-elim}
 use Prim.Native.Nat.{_≤_, zero-le}
 use native.Mathlib.Omega.{arith}
@@ -79,9 +79,6 @@ is-false p h = not-true p (not-i p h)
 pub not-self : (k : Bool) → k ≡ not k → ⊥
 not-self true p = true≢false p
 not-self false p = false≢true p
-
-pub not-same : (p q : Bool) → not p ≡ not q → p ≡ q
-not-same p q e = sym (Bool·not-not p) ∙ ap not e ∙ Bool·not-not q
 
 pub clash : {b : Bool} {A : Type 0} → b ≡ true → b ≡ false → A
 clash t f = absurd (true≢false (sym t ∙ f))

@@ -1,4 +1,4 @@
--- Quantifiers over the numbers below a bound, the lowest number of which a test holds, and "if .. then", as tests.
+-- Quantifiers over the numbers below a bound and "if .. then" as tests; the lowest number that passes a test.
 use mathlib.Core.Bool.{Bool, true, false, not, _&&_, _||_, cond}
 use Prim.Native.Nat.{ℕ, zero, suc}
 use lib.Dec.{eqb}

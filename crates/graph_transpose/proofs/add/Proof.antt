@@ -9,13 +9,13 @@ use lib.ListN.{getD}
 use Rattle.sets.specs.Sets.{union}
 use Rattle.logic.specs.Table.{table}
 use Rattle.logic.proofs.Table.{table-zero, table-more}
-use Rattle.graph_transpose.specs.Adding.{rowWith, added}
+use Rattle.graph_transpose.specs.Adding.{rowAdded, added}
 use Rattle.graph_transpose.proofs.Turning.{added-none}
 use Rattle.graph_transpose.proofs.add.Statement.{statement}
 use Rattle.graph_transpose.proofs.add.Tie as tie
 
 abbrev Inv-loop : tie.InvT-loop
-Inv-loop rows to one next₀ j₀ next j = (j ≤ 32) × (next ≡ table 32 j (rowWith to one rows))
+Inv-loop rows to one next₀ j₀ next j = (j ≤ 32) × (next ≡ table 32 j (rowAdded to one rows))
 
 abbrev μ-loop : tie.MeasureT-loop
 μ-loop rows to one next₀ j₀ next j = 32 - j
@@ -55,7 +55,7 @@ loop-again c =
     let l = c .before .before .before .before .loop in
     let a = c .before .before .before .before .before .before .args in
     let row = getD (now (a .rows)) (l .j) 0 in
-    let is : (t : Bool) → c .before .has32 .result ≡ t → cond t (union row (a .one)) row ≡ rowWith (a .to) (a .one) (now (a .rows)) (l .j) =
+    let is : (t : Bool) → c .before .has32 .result ≡ t → cond t (union row (a .one)) row ≡ rowAdded (a .to) (a .one) (now (a .rows)) (l .j) =
     λ t e. ap (λ (t : Bool). cond t (union row (a .one)) row) (sym e ∙ c .before .has32 .ensures)
     in (
       omega arith,
@@ -69,7 +69,7 @@ returns-2 c =
     let l = c .before .loop in
     let a = c .before .before .before .args in
     let end : l .j ≡ 32 = omega arith in
-    l .inv .1 ∙ ap (λ (k : ℕ). table 32 k (rowWith (a .to) (a .one) (now (a .rows)))) end
+    l .inv .1 ∙ ap (λ (k : ℕ). table 32 k (rowAdded (a .to) (a .one) (now (a .rows)))) end
 
 pub add-spec : {M : Type 1} → statement M
 add-spec =

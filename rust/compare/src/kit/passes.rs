@@ -132,7 +132,7 @@ fn wrong_readings(lines: &mut Lines) {
     }
     lines.note(
         "from-its-start",
-        "a pass takes chains of waits standing at its start (wrong: of rows that it has changed, from the last goal down 2 passes for any chain)",
+        "a pass takes chains of waits standing at its start (wrong: of rows that it has changed, from the last goal down 2 passes for any chain of three goals on)",
     );
     for (goals, passes) in [(4, 3), (5, 3), (6, 4), (12, 5), (20, 6)] {
         lines.expect_passes(&up_to(goals), passes);

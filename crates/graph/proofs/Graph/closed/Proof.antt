@@ -1,9 +1,13 @@
 use borrow.Author.Needs.{needs}
-use mathlib.Core.Path.{_≡_, refl, sym, ap, ap₂, _∙_, subst}
+use mathlib.Core.Path.{_≡_, sym, ap, ap₂, _∙_, subst, subst₂}
 use mathlib.Core.List.{List}
 use mathlib.Core.Logic.{⊎-elim}
-use Prim.Native.Nat.{ℕ, suc, _+_, _-_, _≤_, _<_}
+use Prim.Native.Nat.{ℕ, suc, _+_, _-_, _≤_}
+use native.Mathlib.Decide.{ℕ-discrete}
 use native.Mathlib.Omega.{arith}
+use lib.Dec.{eqb}
+use borrow.Author.Tests.{eqb-true, eqb-false}
+use Rattle.logic.proofs.Bools.{or-true, or-false}
 use Rattle.sets.specs.Sets.{below}
 use Rattle.graph.specs.Graph.{ahead, rowsOf}
 use Rattle.graph.specs.Passes.{pass, after, passes, closedOf}
@@ -13,12 +17,12 @@ use Rattle.graph.proofs.Going.{Going, going-start, going-within, going-
 use Rattle.graph.proofs.Graph.closed.Statement.{statement}
 use Rattle.graph.proofs.Graph.closed.Tie as tie
 
--- before pass k those before it are made, and none was the last
+-- those before this pass are made, and none was the last
 abbrev Inv-loop : tie.InvT-loop
-Inv-loop self₀ n all passes₀ k₀ self passes k = (k ≡ passes + 1) × (passes ≤ 6) × Going 32 n (self₀ .rows) passes (self .rows)
+Inv-loop self₀ n all passes₀ self passes = (1 ≤ passes) × (passes ≤ 6) × Going 32 n (self₀ .rows) (passes - 1) (self .rows)
 
 abbrev μ-loop : tie.MeasureT-loop
-μ-loop self₀ n all passes₀ k₀ self passes k = 7 - k
+μ-loop self₀ n all passes₀ self passes = 6 - passes
 
 below32-requires : tie.Need-below32-requires Inv-loop μ-loop
 below32-requires c κs = c .pre .0
@@ -28,67 +32,107 @@ loop-holds c = (omega arith, omega arith, going-start 32 (c .before .args .t1 .n
 
 pass-requires : tie.Need-pass-requires Inv-loop μ-loop
 pass-requires c κs =
-    let s = c .before .before .before .before in
-    let l = c .before .before .loop in
-    (s .pre .0, going-within 32 (s .args .t1 .n) (s .args .t1 .rows) (s .pre .0) (l .passes) (l .self .rows) (l .inv .2))
+    let s = c .before .before .before in
+    let l = c .before .loop in
+    (s .pre .0, going-within 32 (s .args .t1 .n) (s .args .t1 .rows) (s .pre .0) (l .passes - 1) (l .self .rows) (l .inv .2))
 
 -- what the pass answers, and what it is compared with
-sets-are : (c : tie.After-pass Inv-loop μ-loop) →
-    let n : ℕ = c .before .before .before .before .before .args .t1 .n in
-    let rows : List ℕ = c .before .before .before .loop .self .rows in
-    (c .pass .result ≡ sameRows n rows (rowsOf 32 n (pass n (ahead rows)))) × (c .before .before .before .before .below32 .result ≡ below n)
-sets-are c =
-    let n = c .before .before .before .before .before .args .t1 .n in
-    (c .pass .ensures .1 ∙ ap (sameRows n (c .before .before .before .loop .self .rows)) (c .pass .ensures .0), c .before .before .before .before .below32 .ensures)
+module _ (c : tie.After-pass Inv-loop μ-loop) where
+  abbrev g : Graph
+  g = c .before .before .before .before .args .t1
 
-add-k : tie.Need-add-k Inv-loop μ-loop
-add-k c = search needs
+  abbrev rows : List ℕ
+  rows = c .before .before .loop .self .rows
 
-loop-less : tie.Need-loop-less Inv-loop μ-loop
-loop-less c = search needs
+  answer : c .pass .result ≡ sameRows (g .n) rows (rowsOf 32 (g .n) (pass (g .n) (ahead rows)))
+  answer = c .pass .ensures .1 ∙ ap (sameRows (g .n) rows) (c .pass .ensures .0)
 
-loop-again : tie.Need-loop-again Inv-loop μ-loop
-loop-again c =
-    let s = c .before .before .before .before .before .before in
-    let l = c .before .before .before .before .loop in
-    let is = sets-are (c .before) in
-    let next = going-on 32 (s .args .t1 .n) (s .args .t1 .rows) (s .pre .0) (l .passes) (l .self .rows) (l .inv .2) (λ e. c .if1 .left (is .0 ∙ e ∙ sym (is .1))) in
-    let one : suc (l .passes) ≡ l .k = omega (arith, l .inv .0) in
-    (refl, omega (arith, c .before .before .before .loop-test .taken), subst₂ one (sym (c .before .pass .ensures .0)) next)
-  where
-    subst₂ : {n : ℕ} {start a b : List ℕ} {j k : ℕ} → j ≡ k → a ≡ b → Going 32 n start j a → Going 32 n start k b
-    subst₂ {n} {start} {a} {b} {j} {k} e f g = subst (λ (x : ℕ). Going 32 n start x b) e (subst (Going 32 n start j) f g)
+  all : c .before .before .before .below32 .result ≡ below (g .n)
+  all = c .before .before .before .below32 .ensures
 
--- where the loop is left, the rows are those after the last pass
-ended : (c : tie.Left-loop Inv-loop μ-loop) →
-    let g = c .before .before .before .args .t1 in
+  -- the pass that is made is this one
+  this : suc (c .before .before .loop .passes - 1) ≡ c .before .before .loop .passes
+  this = omega (arith, c .before .before .loop .inv .0)
+
+  -- one that adds a wait is not the last
+  on : (c .pass .result ≡ c .before .before .before .below32 .result → ⊥) → Going 32 (g .n) (g .rows) (c .before .before .loop .passes) (c .pass .last .0)
+  on h =
+      let l = c .before .before .loop in
+      subst₂ (Going 32 (g .n) (g .rows)) this (sym (c .pass .ensures .0))
+      (going-on 32 (g .n) (g .rows) (c .before .before .before .before .pre .0) (l .passes - 1) (l .self .rows) (l .inv .2) (λ e. h (answer ∙ e ∙ sym all)))
+
+-- where the loop is left, the rows are those after the last pass: the last that there can be has added none
+ended : (c : tie.Then1 Inv-loop μ-loop) →
+    let g = g (c .before) in
     let W = ahead (g .rows) in
-    (c .loop-test .self .rows ≡ rowsOf 32 (g .n) (after (g .n) W (passes (g .n) W))) × (c .loop-test .passes ≡ passes (g .n) W)
-ended c =
-    let s = c .before .before .before in
-    let g = s .args .t1 in
-    let n = g .n in
-    let l = c .before .loop in
-    ⊎-elim
-    (λ w.
-    let all : l .passes ≡ 6 = omega (arith, l .inv .0, l .inv .1, w .0 .left) in
-    absurd (going-end 32 n (g .rows) 5 (l .self .rows) (s .pre .0) (subst (λ (x : ℕ). Going 32 n (g .rows) x (l .self .rows)) all (l .inv .2))))
-    (λ w.
-    let is = sets-are (record { before = record { before = record { before = c .before; loop-test = w .0 }; pass-arg = w .1 }; pass = w .2 }) in
-    let stop = going-stop 32 n (g .rows) (s .pre .0) (l .passes) (l .self .rows) (l .inv .2) (sym (is .0) ∙ w .3 .taken ∙ is .1) in (
-      ap (λ (x : Graph). x .rows) (w .4) ∙ w .2 .ensures .0 ∙ going-next 32 n (g .rows) (s .pre .0) (l .passes) (l .self .rows) (l .inv .2)
-          ∙ ap (λ (k : ℕ). rowsOf 32 n (after n (ahead (g .rows)) k)) (sym stop),
-      w .5 ∙ omega (arith, l .inv .0, stop),
-    ))
-    (c .loop-test .came)
+    (c .before .pass .last .0 ≡ rowsOf 32 (g .n) (after (g .n) W (passes (g .n) W))) × (c .before .before .before .loop .passes ≡ passes (g .n) W)
+ended c = pick (ℕ-discrete still end)
+  where
+    q : tie.After-pass Inv-loop μ-loop
+    q = c .before
+
+    still : ℕ
+    still = c .before .pass .result
+
+    end : ℕ
+    end = c .before .before .before .before .below32 .result
+
+    made : ℕ
+    made = c .before .before .before .loop .passes
+
+    n : ℕ
+    n = c .before .before .before .before .before .args .t1 .n
+
+    start : List ℕ
+    start = c .before .before .before .before .before .args .t1 .rows
+
+    pick : Dec (still ≡ end) → (c .before .pass .last .0 ≡ rowsOf 32 n (after n (ahead start) (passes n (ahead start)))) × (made ≡ passes n (ahead start))
+    pick (yes e) =
+        let l = c .before .before .before .loop in
+        let h = c .before .before .before .before .before .pre .0 in
+        let stop = going-stop 32 n start h (made - 1) (l .self .rows) (l .inv .2) (sym (answer q) ∙ e ∙ all q) in (
+          c .before .pass .ensures .0 ∙ going-next 32 n start h (made - 1) (l .self .rows) (l .inv .2) ∙ ap (λ (k : ℕ). rowsOf 32 n (after n (ahead start) k)) (sym stop),
+          sym (stop ∙ this q),
+        )
+    pick (no e) =
+        ⊎-elim (λ t. absurd (e (eqb-true still end t)))
+        (λ t.
+        absurd
+        (going-end 32 n start 5 (c .before .pass .last .0) (c .before .before .before .before .before .pre .0)
+        (subst (λ (k : ℕ). Going 32 n start k (c .before .pass .last .0)) (eqb-true made 6 t) (on q e))))
+        (or-true (eqb still end) (eqb made 6) (c .if1 .taken))
 
 returns : tie.Need-returns Inv-loop μ-loop
 unfolding closedOf
 returns c =
     let is = ended (c .before) in
-    ap₂ (λ (r : List ℕ) (k : ℕ). record { graph = record { n = c .before .before .before .before .args .t1 .n; rows = r }; passes = k }) (is .0) (is .1)
+    ap₂ (λ (r : List ℕ) (k : ℕ). record { graph = record { n = g (c .before .before) .n; rows = r }; passes = k }) (is .0) (is .1)
+
+-- where it goes on, this was not the last that there can be
+more : (c : tie.Else1 Inv-loop μ-loop) → (c .before .pass .result ≡ c .before .before .before .before .below32 .result → ⊥) × (c .before .before .before .loop .passes ≡ 6 → ⊥)
+more c =
+    let still = c .before .pass .result in
+    let end = c .before .before .before .before .below32 .result in
+    let made = c .before .before .before .loop .passes in
+    let r = or-false (eqb still end) (eqb made 6) (c .if1 .left) in
+    (eqb-false still end (r .0), eqb-false made 6 (r .1))
+
+add-passes : tie.Need-add-passes Inv-loop μ-loop
+add-passes c = search needs
+
+loop-less : tie.Need-loop-less Inv-loop μ-loop
+loop-less c = omega (arith, c .before .before .before .loop .inv .1, more c .1)
+
+loop-again : tie.Need-loop-again Inv-loop μ-loop
+loop-again c =
+    let l = c .before .before .before .loop in
+    let z : l .passes ≡ l .passes + 1 - 1 = omega arith in (
+      omega arith,
+      omega (arith, l .inv .1, more c .1),
+      subst (λ (k : ℕ). Going 32 (g (c .before) .n) (g (c .before) .rows) k (c .before .pass .last .0)) z (on (c .before) (more c .0)),
+    )
 
 pub closed-spec : {M : Type 1} → statement M
 closed-spec =
     tie.close
-    (tie.spec Inv-loop μ-loop below32-requires loop-holds pass-requires add-k loop-less loop-again returns)
+    (tie.spec Inv-loop μ-loop below32-requires loop-holds pass-requires returns add-passes loop-less loop-again)
