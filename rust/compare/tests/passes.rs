@@ -64,14 +64,9 @@ fn every_graph_of_up_to_six_goals() {
 
 #[test]
 fn chains() {
-    let known = |goals: usize| match goals {
-        1..=2 => 1,
-        3 => 2,
-        4..=5 => 3,
-        6..=9 => 4,
-        10..=17 => 5,
-        _ => 6,
-    };
+    // From these numbers of goals on a chain takes one pass more.
+    let more = [1, 3, 4, 6, 10, 18];
+    let known = |goals: usize| more.iter().filter(|from| goals >= **from).count() as u32;
     for goals in 1..=24 {
         assert_eq!(hold(&Parts::with_waits(goals, &chain(goals)).unwrap()), known(goals));
     }
