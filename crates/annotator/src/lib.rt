@@ -20,6 +20,8 @@
 // The definitions are those of specs/ here, or of the crate named before a colon. Rows past n are empty, and a refused record's graph is the empty one of
 // 0 goals, with 0 passes. Behind its text `out` is kept. With any refusal, which find_text names, the part is the empty one at the record's start. For i
 // and j just one of the two orders, the record's and the text's, has i before j.
+#![tactic(auto)]
+
 ghost use Rattle.std.specs.Prelude.{◌≡◌};
 ghost use Rattle.order.specs.Order.{before};
 ghost use Rattle.expression_grammar.specs.Check.{checked};

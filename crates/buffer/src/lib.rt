@@ -1,5 +1,7 @@
 // Reading a byte of a lent buffer, and writing texts into one. A byte past the end is counted and not stored, so the same function measures a text (run on
 // an empty buffer) and stores it.
+#![tactic(auto)]
+
 ghost use Rattle.std.specs.Prelude.{◌≡◌, [], ◌∷◌, ◌+◌, ◌^◌, ◌<◌, ◌≤◌, length, get_or};
 ghost use Rattle.buffer.specs.Text.{Wrote, only};
 ghost use Rattle.buffer.specs.Decimal.{decimal};

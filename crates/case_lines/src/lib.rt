@@ -1,4 +1,6 @@
 // Reading lines of test cases: fields separated by one space, bytes in hexadecimal, numbers in decimal.
+#![tactic(auto)]
+
 ghost use Rattle.std.specs.Prelude.{◌≡◌, ◌+◌, ◌<◌, ◌≤◌, ◌^◌, length, drop};
 ghost use Rattle.buffer.specs.Text.{Wrote};
 ghost use Rattle.case_lines.specs.Line as L;

@@ -1,4 +1,6 @@
 // Decodes an accepted record: the facts of its clause by value. Nothing is tested here: `record` reads.
+#![tactic(auto)]
+
 ghost use Rattle.std.specs.Prelude.{◌≡◌, ◌+◌, ◌*◌, ◌<◌, get_or, replicate};
 ghost use Rattle.sets.specs.Sets.{goal_limit, variable_limit};
 ghost use Rattle.record_fields.specs.Fields as F;

@@ -1,5 +1,7 @@
 // The facts of a clause, for planners: each function fills what it is lent with one of them, and says what reading the record says. None has a
 // precondition; with a refusal what is lent stays as it was.
+#![tactic(auto)]
+
 ghost use Rattle.std.specs.Prelude.{◌≡◌};
 ghost use Rattle.sets.specs.Sets.{goal_limit, variable_limit};
 ghost use Rattle.record_fields.specs.Fields.{head_set};

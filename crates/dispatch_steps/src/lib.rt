@@ -1,5 +1,7 @@
 // One head's turn in a tick, on values (02, request 4). The row is gone over twice: every head is looked at, and then, if nothing is refused, every head takes a goal if
 // it is idle, and works. Both are one pass over the row each: what a head's work changes, no later head's taking reads.
+#![tactic(auto)]
+
 ghost use Rattle.std.specs.Prelude.{◌≡◌, cond, ◌≤◌};
 ghost use Rattle.sets.specs.Sets.{goal_limit};
 ghost use Rattle.graph.specs.Graph.{has_goal};
@@ -26,13 +28,13 @@ const TAKE: u32 = 0;
 const WORK: u32 = 1;
 
 // What a tick goes by and no turn changes: how many ticks each goal takes, goal g at place g - 1.
-#[derive(Drop)]
+#[derive(Clone, Copy)]
 pub struct Plan {
     pub ticks: [u32; Graph::MAX],
 }
 
 // What a head's turn goes by and may change.
-#[derive(Drop)]
+#[derive(Clone, Copy)]
 pub struct Board {
     pub phase: u32,
     // The goals that a head may have: not ended, their predecessors have all ended, and on no head that has had its turn.

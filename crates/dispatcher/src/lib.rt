@@ -1,5 +1,7 @@
 // The dispatcher's two operations but for the row of heads (02, request 4): from the record to what a start and a tick begin with, and from what is left on the board to
 // the answer word. The crate `lfj_dispatch` goes over the row.
+#![tactic(auto)]
+
 ghost use Rattle.std.specs.Prelude.{◌≡◌};
 ghost use Rattle.record.specs.WellFormed.{WellFormed};
 ghost use Rattle.dispatcher.specs.Ticks as T;

@@ -1,11 +1,13 @@
 // What the readers of an expression's text answer with, and the reader of a number.
+#![tactic(auto)]
+
 ghost use Rattle.std.specs.Prelude.{◌≡◌, ◌≤◌, get_or};
 ghost use Rattle.sets.specs.Sets.{goal_limit};
 ghost use Rattle.expression_number.specs.Nodes.{mask_of, extra_of, found, Numbered};
 
 use graph::Graph;
 
-#[derive(Drop)]
+#[derive(Clone, Copy)]
 pub enum Kind {
     Goal,
     Group,
@@ -14,7 +16,7 @@ pub enum Kind {
 
 // What is read: the place behind it, its kind, the goals up to 32 that stand in it, and a word that is 0 only if they stand in it once and no
 // other number does. The place stands first, as a refusal's does: so both are kept in one register.
-#[derive(Drop)]
+#[derive(Clone, Copy)]
 pub struct Node {
     pub end: usize,
     pub kind: Kind,

@@ -1,6 +1,8 @@
 // The readers of an expression's text: sequence, group and primary call each other in a cycle, bounded by the bytes left and the open parentheses.
 // Members are read by loops; the rows of the order, turned round, are lent down the cycle, so that a member is put behind all before it by its own rows alone.
 // Each reader answers with one node.
+#![tactic(auto)]
+
 ghost use Rattle.std.specs.Prelude.{◌≡◌, leb};
 ghost use Rattle.sets.specs.Sets.{goal_limit};
 ghost use Rattle.expression_grammar.specs.TextRules.{open_limit};

@@ -1,4 +1,6 @@
 // Reading an expression's text for n goals: refusals 15, 16 and 17 in this sequence, else its order as a graph.
+#![tactic(auto)]
+
 ghost use Rattle.std.specs.Prelude.{◌≡◌, true, ◌<◌, ◌≤◌, ◌^◌, get_or};
 ghost use Rattle.sets.specs.Sets.{goal_limit};
 ghost use Rattle.expression_grammar.specs.TextRules.{read_text};

@@ -1,4 +1,6 @@
 // The first N of an order: goals a, b, c, d with a before c, b before c, b before d and no other order among the four.
+#![tactic(auto)]
+
 ghost use Rattle.std.specs.Prelude.{◌≡◌, ◌<◌, ◌≤◌};
 ghost use Rattle.sets.specs.Sets.{goal_limit};
 ghost use Rattle.graph.specs.Graph.{ahead, transposed, Within};

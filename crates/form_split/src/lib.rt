@@ -1,4 +1,6 @@
 // Splitting a set of goals into the members of its house form, and writing the form's text. For any strict order on the goals.
+#![tactic(auto)]
+
 ghost use Rattle.std.specs.Prelude.{◌≡◌, suc, ◌+◌, ◌^◌, ◌<◌, length};
 ghost use Rattle.sets.specs.Sets.{goal_limit};
 ghost use Rattle.graph.specs.Graph.{ahead, behind};

@@ -1,4 +1,6 @@
 // The dependency graph of a clause by value: the goal count, and for each goal the set of goals that it is before.
+#![tactic(auto)]
+
 ghost use Rattle.std.specs.Prelude.{◌≡◌, cond, true, ◌-◌, ◌≤◌, ◌<◌, get_or};
 ghost use Rattle.sets.specs.Sets as S;
 ghost use Rattle.graph.specs.Graph as G;

@@ -1,4 +1,6 @@
 // Rows of a dependency graph turned round.
+#![tactic(auto)]
+
 ghost use Rattle.std.specs.Prelude.{◌≡◌, ◌≤◌, length};
 ghost use Rattle.sets.specs.Sets as S;
 ghost use Rattle.graph.specs.Graph as G;

@@ -1,4 +1,6 @@
 // Whether a later goal waits for an earlier one. Nothing else compares two goals.
+#![tactic(auto)]
+
 ghost use Rattle.std.specs.Prelude.{◌≡◌};
 ghost use Rattle.sets.specs.Sets as S;
 ghost use Rattle.independence.specs.ByRows as J;
@@ -42,7 +44,7 @@ pub fn ties(set: u64, grounded: u64, free: u64, listed: &[u64; sets::VARIABLES])
 
 // A set of variables in two halves: the variables below 32, and those from 32 on, each less 32. Processors that compare several words at once do so for
 // words of 32 bits, and not all of them for words of 64.
-#[derive(Drop)]
+#[derive(Clone, Copy)]
 pub struct Halves {
     pub low: u32,
     pub high: u32,

@@ -1,5 +1,7 @@
 // The operations for callers in C and Rust: one exported function each, thin over `annotator`. Each answers one word (lfj_words) and has no
 // precondition; what is lent by `&` cannot change.
+#![tactic(auto)]
+
 ghost use Rattle.std.specs.Prelude.{◌≡◌};
 ghost use Rattle.sets.specs.Sets.{goal_limit, variable_limit};
 ghost use Rattle.record_fields.specs.Fields.{head_set};

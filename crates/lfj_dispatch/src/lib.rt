@@ -10,6 +10,8 @@
 //
 // An answer is a word (lfj_words): bits 56 to 63 have the refusal's number, 0 if accepted, bits 0 to 31 its place or the set. The functions here are thin: a head is copied out of
 // the row, a step on values is called (dispatch_steps), and the head is stored back. Nothing is decided here.
+#![tactic(auto)]
+
 ghost use Rattle.std.specs.Prelude.{◌≡◌};
 ghost use Rattle.lfj_words.specs.Words.{tick_word};
 ghost use Rattle.dispatch_steps.specs.Steps as S;

@@ -1,4 +1,6 @@
 // The answer words of the functions for callers in C and Rust (specs/Words.antt), put together from their parts.
+#![tactic(auto)]
+
 ghost use Rattle.std.specs.Prelude.{◌≡◌, ◌%◌, ◌^◌};
 ghost use Rattle.std.proofs.Math.Option.{some};
 ghost use Rattle.record_rules.specs.Outcome.{refused};

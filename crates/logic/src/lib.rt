@@ -1,1 +1,2 @@
 // Truth values, bounded quantifiers, and whole arrays as tables: definitions in specs/, laws in proofs/.
+#![tactic(auto)]

@@ -1,4 +1,6 @@
 // Writing the annotation of a record.
+#![tactic(auto)]
+
 ghost use Rattle.std.specs.Prelude.{◌≡◌, ◌+◌, ◌*◌, ◌<◌, ◌≤◌, length};
 ghost use Rattle.sets.specs.Sets.{goal_limit, variable_limit};
 ghost use Rattle.record_rules.specs.Outcome.{accepted, size_in, buffer_after};

@@ -1,4 +1,6 @@
 // The texts of a stage's checks, a comma before each.
+#![tactic(auto)]
+
 ghost use Rattle.std.specs.Prelude.{◌+◌, ◌^◌, ◌<◌, ◌≤◌, length};
 ghost use Rattle.std.proofs.Math.Seq as Q;
 ghost use Rattle.sets.specs.Sets.{variable_limit};

@@ -1,4 +1,6 @@
 // The stages of the MEL annotation and their checks, by masks over the goals' variable sets. Goals are numbered from 1.
+#![tactic(auto)]
+
 ghost use Rattle.std.specs.Prelude.{◌≡◌, ◌+◌, ◌<◌, ◌≤◌, ◌^◌, length, replicate};
 ghost use Rattle.sets.specs.Sets.{goal_limit, variable_limit};
 ghost use Rattle.mel_stages.specs.Mel as W;

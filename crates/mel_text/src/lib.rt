@@ -1,4 +1,6 @@
 // The texts of a clause's stages.
+#![tactic(auto)]
+
 ghost use Rattle.std.specs.Prelude.{◌≡◌, true, ◌+◌, ◌^◌, ◌<◌, ◌≤◌, max, length};
 ghost use Rattle.sets.specs.Sets.{goal_limit, variable_limit};
 ghost use Rattle.buffer.specs.Text.{Wrote};

@@ -1,4 +1,6 @@
 // The waiting order of a clause.
+#![tactic(auto)]
+
 ghost use Rattle.std.specs.Prelude.{◌≡◌, cond, ◌+◌, ◌<◌, ◌≤◌, length, replicate};
 ghost use Rattle.sets.specs.Sets as S;
 ghost use Rattle.independence.specs.Ties.{ties_of};

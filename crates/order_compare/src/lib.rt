@@ -1,4 +1,6 @@
 // The comparison of two orders by their rows: "same", or the first i, then j, for which just one of the two has i before j.
+#![tactic(auto)]
+
 ghost use Rattle.std.specs.Prelude.{◌≡◌, ◌≤◌};
 ghost use Rattle.sets.specs.Sets as S;
 ghost use Rattle.graph.specs.Graph.{ahead};

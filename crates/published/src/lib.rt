@@ -1,1 +1,2 @@
 // Definitions and laws alone: the published decision on dependency graphs.
+#![tactic(auto)]

@@ -1,4 +1,6 @@
 // The fields of a clause record. Every read is total: a byte past the end is 0.
+#![tactic(auto)]
+
 ghost use Rattle.std.specs.Prelude.{◌≡◌, ◌+◌, ◌*◌, ◌<◌, ◌≤◌, ◌^◌, length, cond, false};
 ghost use Rattle.record_fields.specs.Fields as F;
 ghost use Rattle.record_fields.specs.Facts as K;

@@ -1,4 +1,6 @@
 // Checks a goal of a record: by plain tests whether anything is refused, and step by step for the refusal.
+#![tactic(auto)]
+
 ghost use Rattle.std.specs.Prelude.{◌≡◌, ◌+◌, ◌<◌, ◌≤◌, ◌^◌, true, false, length};
 ghost use Rattle.sets.specs.Sets.{below};
 ghost use Rattle.record_fields.specs.Fields as F;

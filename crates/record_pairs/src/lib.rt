@@ -1,4 +1,6 @@
 // Checks the pairs of a record and its end.
+#![tactic(auto)]
+
 ghost use Rattle.std.specs.Prelude.{◌≡◌, ◌<◌, ◌^◌};
 ghost use Rattle.record_fields.specs.Fields as F;
 ghost use Rattle.record_rules.specs.Reading as R;

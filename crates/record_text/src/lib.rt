@@ -1,4 +1,6 @@
 // The text of a goal in a lent record.
+#![tactic(auto)]
+
 ghost use Rattle.std.specs.Prelude.{◌≡◌, ◌&&◌, leb};
 ghost use Rattle.record_text.specs.Texts as T;
 ghost use Rattle.record_text.specs.Part.{PartAt};

@@ -1,4 +1,6 @@
 // Runs the cases of cases.txt and prints one answer a line, in the words of the conformance kit; `no case` if there is none.
+#![tactic(auto)]
+
 ghost use Rattle.std.specs.Prelude.{◌≤◌, length};
 
 use annotator::{CheckAnswer, ReadAnswer};

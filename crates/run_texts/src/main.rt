@@ -1,4 +1,6 @@
 // Reads lines `GOALS TEXT` from standard input, the text in hexadecimal, and prints what reading each text gives: `read`, or `refused NUMBER PLACE`; `no case` if there is no line.
+#![tactic(auto)]
+
 ghost use Rattle.std.specs.Prelude.{◌≤◌};
 ghost use Rattle.sets.specs.Sets.{goal_limit};
 

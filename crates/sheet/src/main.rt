@@ -1,4 +1,6 @@
 // Reads a clause record from standard input and prints its sheet.
+#![tactic(auto)]
+
 use libc::STDIN_FILENO;
 
 fn main() {

@@ -1,5 +1,6 @@
 // Prints the sheets of records at the limits: one of each refusal, one without a form, the longest and one byte more, a full input array and more
 // than that, and MEL texts of 32,768 and 32,769 bytes.
+#![tactic(auto)]
 
 // Prints the sheet of the record in the file of this name.
 fn print_sheet(name: &[u8]) {

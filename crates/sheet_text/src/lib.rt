@@ -1,4 +1,6 @@
 // Writing the printed sheet of a record. Each function writes into a lent array from a place on and answers the next place (crate `buffer`).
+#![tactic(auto)]
+
 ghost use Rattle.std.specs.Prelude.{◌≡◌, ◌+◌, ◌^◌, ◌<◌, ◌≤◌, length, take};
 ghost use Rattle.io.specs.Counts.{IsPrefixLen};
 ghost use Rattle.buffer.specs.Text.{Wrote};

@@ -1,0 +1,15 @@
+use Prim.Native.Nat.{◌≤◌, ◌+◌, ◌-◌}
+use mathlib.Core.Path.{◌≡◌}
+use Rattle.sets.specs.Sets.{goal_limit}
+use Rattle.record_fields.specs.Fields as F
+use Rattle.record_fields.specs.Facts.{ground_at, ticks_at}
+use Rattle.clause.proofs.GoalFacts as G
+use Rattle.clause.proofs.take_goals.Given as goal
+
+abbrev pub invariant-loop-g : goal.invariant-loop-g
+invariant-loop-g l =
+    (l.g ≤ l.n) × (l.fixed + l.texts ≡ F.place_after l.b l.g) × (l.sets ≡ G.facts_after goal_limit (F.goal_set l.b) l.g) × (l.grounds ≡ G.facts_after goal_limit (ground_at l.b) l.g)
+    × (l.ticks ≡ G.facts_after goal_limit (ticks_at l.b) l.g)
+
+abbrev pub decreases-loop-g : goal.decreases-loop-g
+decreases-loop-g l = l.n - l.g

@@ -1,0 +1,13 @@
+use mathlib.Core.Path.{ap, ap₂, ◌∙◌}
+use mathlib.Core.Bool.{not}
+use Prim.Native.Nat.{ℕ}
+use native.Mathlib.Omega.{arith}
+use lib.Dec.{eqb}
+use Rattle.sets.specs.Sets.{union}
+use Rattle.independence.proofs.ByHalves.{tied-halves}
+use Rattle.independence.proofs.waits.Goals as goal
+
+pub returns : goal.returns
+returns c =
+    ap (λ (m : ℕ). not (eqb m 0)) (c.union32.ensures ∙ ap₂ union c.meet32-low.ensures c.meet32-high.ensures)
+    ∙ tied-halves 32 c.args.ties c.args.later (omega arith) (omega arith)

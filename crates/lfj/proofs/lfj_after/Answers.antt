@@ -1,0 +1,30 @@
+use native.Mathlib.Omega.{arith}
+use Rattle.record.proofs.WellFormed.{fine_well_formed}
+use Rattle.record_text.proofs.Texts.{tested, in_range}
+use Rattle.lfj.proofs.After.{was_accepted, after-refused, after_outside, after-row}
+use Rattle.lfj.proofs.lfj_after.Goals as goal
+
+pub row-requires : goal.row-requires
+row-requires c =
+    let b = c.args.bytes.now in
+    let g = c.args.goal in
+    let fine = was_accepted b c.order-answer.ensures.reading_value c.reading-in-Accepted-1.given.1 in
+    let r = in_range b g (fine_well_formed b fine.0) (tested b g c.inside.ensures c.if-inside.true fine.1) in
+    (omega arith, omega arith)
+
+pub returns-then-inside : goal.returns-then-inside
+returns-then-inside c =
+    let b = c.args.bytes.now in
+    let g = c.args.goal in
+    let fine = was_accepted b c.order-answer.ensures.reading_value c.reading-in-Accepted-1.given.1 in
+    after-row b g fine.0 c.order-answer.ensures.graph_value.0 (tested b g c.inside.ensures c.if-inside.true fine.1) c.row.ensures
+
+pub returns-in-Refused : goal.returns-in-Refused
+returns-in-Refused c = after-refused _ _ _ c.order-answer.ensures.reading_value c.reading-1.given.1 c.refused.ensures
+
+pub returns-else-inside : goal.returns-else-inside
+returns-else-inside c =
+    let b = c.args.bytes.now in
+    let g = c.args.goal in
+    let fine = was_accepted b c.order-answer.ensures.reading_value c.reading-in-Accepted-1.given.1 in
+    after_outside b g fine.0 (tested b g c.inside.ensures c.if-inside.false fine.1) c.refused-in-Accepted.ensures
