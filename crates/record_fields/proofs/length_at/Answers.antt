@@ -7,4 +7,4 @@ use Rattle.record_fields.proofs.length_at.Goals as goal
 
 pub returns : goal.returns
 unfolding F.length_at
-returns c = record { value = ap (λ (x : ℕ). c.args.at + x) (c-length.ensures.0 ∙ ap (λ (own : Bool). cond own 18 8) c.requires.1); upper_bound = omega arith }
+returns c = record { value = ap (λ (x : ℕ). c.args.at + x) (c.before_length.ensures.value ∙ ap (λ (own : Bool). cond own 18 8) c.requires.1); upper_bound = omega arith }
