@@ -1,4 +1,3 @@
-use Prim.Native.Nat.{◌-◌}
 use native.Mathlib.Omega.{arith}
 use Rattle.buffer.proofs.Writing.{start, onward, done, left_kept}
 use Rattle.case_lines.proofs.Fields.{bytes_more, bytes-last, bytes-end}

@@ -1,5 +1,4 @@
 use mathlib.Core.Path.{refl}
-use Prim.Native.Nat.{◌-◌}
 use native.Mathlib.Omega.{arith}
 use Rattle.case_lines.proofs.Fields.{up_hit, up_miss, up_end}
 use Rattle.case_lines.proofs.find.Goals as goal

@@ -1,6 +1,5 @@
 use native.Mathlib.Nat.{mod-lt}
 use mathlib.Core.Path.{refl, sym, ◌∙◌}
-use Prim.Native.Nat.{◌-◌}
 use native.Mathlib.Omega.{arith}
 use Rattle.case_lines.proofs.Fields.{value_more, value-end}
 use Rattle.case_lines.proofs.number.Goals as goal
