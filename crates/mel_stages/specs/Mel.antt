@@ -6,7 +6,7 @@ use Rattle.sets.specs.Sets.{has}
 use Rattle.buffer.specs.Text.{join_from, non_empty}
 use Rattle.buffer.specs.Decimal.{decimal}
 
--- What the annotation reads of a clause. Every variable is below width; sets holds the goals' variable sets, goal 1 first. ground g is the set of
+-- What the annotation reads of a clause. Every variable is below width; sets holds the goals' variable sets, goal 1 first. grounded g is the set of
 -- the variables known ground at goal g, known g x y says that x and y are known independent there (003's I).
 pub record Facts : Type 0 where
   pub width : ℕ

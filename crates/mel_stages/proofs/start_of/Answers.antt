@@ -11,9 +11,10 @@ use borrow.Author.Tests.{eq-eqb, ne_eqb}
 use Rattle.mel_stages.proofs.Masks.{upto_at}
 use Rattle.mel_stages.proofs.Starts.{none_after, one_more, boundary_mask, start-whole, start_none, largest-boundary, largest-on}
 use Rattle.mel_stages.proofs.start_of.Goals as goal
+use Rattle.mel_stages.proofs.start_of.Goals.{After-meet}
 
 -- the code's test of a goal is the paper's
-tested : (c : goal.After-meet) →
+tested : (c : After-meet) →
     let a = c.args in
     not (eqb c.meet.result 0) ≡ W.boundary 64 a.head a.sets.now a.q c.loop-p.p
 tested c =
@@ -50,7 +51,7 @@ pub meet-requires : goal.meet-requires
 meet-requires c = omega arith
 
 pub returns-then-meet-ne0 : goal.returns-then-meet-ne0
-returns-then-meet-ne0 c = sym (c.loop-p.invariant.1.1 ∙ largest-boundary _ _ _ _ _ (omega arith) (sym (tested c.before) ∙ ap not (ne_eqb _ 0 c.if-meet-ne0.true)))
+returns-then-meet-ne0 c = sym (c.loop-p.invariant.1.1 ∙ largest-boundary _ _ _ _ _ (omega arith) (sym (tested (goal.at.returns-then-meet-ne0 c).After-meet) ∙ ap not (ne_eqb _ 0 c.if-meet-ne0.true)))
 
 pub union-after-requires : goal.union-after-requires
 union-after-requires c = omega arith
@@ -64,7 +65,7 @@ loop-p-preserved c =
       omega arith,
       (
         λ x. rw (c.union-after.ensures, c.goal-s.ensures) (one_more _ _ _ _ (omega arith) (omega arith) l.invariant.1.0 x),
-        l.invariant.1.1 ∙ largest-on _ _ _ _ _ (omega arith) (sym (tested c.before.before) ∙ ap not (eq-eqb _ 0 c.if-meet-ne0.false)),
+        l.invariant.1.1 ∙ largest-on _ _ _ _ _ (omega arith) (sym (tested (goal.at.loop-p-preserved c).After-meet) ∙ ap not (eq-eqb _ 0 c.if-meet-ne0.false)),
       ),
     )
 

@@ -1,4 +1,3 @@
-use Prim.Native.Nat.{◌-◌}
 use mathlib.Core.Path.{◌∙◌}
 use native.Mathlib.Omega.{arith}
 use Rattle.mel_stages.proofs.Masks.{once-none, once_more, upto_none, upto_more, upto_all}
