@@ -24,7 +24,7 @@ pub offset_bounds-rows-k : goal.offset_bounds-rows-k
 offset_bounds-rows-k c = omega (arith, goal_in c.before)
 
 pub bounds-rows-k : goal.bounds-rows-k
-bounds-rows-k c = goal_in c.before.before
+bounds-rows-k c = goal_in c.before.before.before
 
 pub loop-left-smaller : goal.loop-left-smaller
 loop-left-smaller c =

@@ -1,6 +1,6 @@
 use borrow.Author.Rules.{rules}
 use mathlib.Core.Path.{◌≡◌, refl, sym, ap, ap₂, ◌∙◌}
-use mathlib.Core.Bool.{true, not}
+use mathlib.Core.Bool.{not}
 use Prim.Native.Nat.{ℕ, ◌<◌}
 use native.Mathlib.Omega.{arith}
 use lib.ListN.{get_or}
@@ -24,7 +24,7 @@ pub offset_bounds-rows-k : goal.offset_bounds-rows-k
 offset_bounds-rows-k c = omega (arith, goal_in c)
 
 pub bounds-rows-k : goal.bounds-rows-k
-bounds-rows-k c = goal_in c.before
+bounds-rows-k c = goal_in c.before.before
 
 pub without_first32-requires : goal.without_first32-requires
 without_first32-requires c = c.loop-left-test.true

@@ -21,10 +21,10 @@ pub offset_bounds-rows-i : goal.offset_bounds-rows-i
 offset_bounds-rows-i c = let l = row c in search rules
 
 pub bounds-rows-i : goal.bounds-rows-i
-bounds-rows-i c = row c.before
+bounds-rows-i c = row c.before.before
 
 pub offset_bounds-rows-i-in-loop-left : goal.offset_bounds-rows-i-in-loop-left
-offset_bounds-rows-i-in-loop-left c = let l = row c in search rules
+offset_bounds-rows-i-in-loop-left c = let l = row c.before.before in search rules
 
 pub bounds-rows-i-in-loop-left : goal.bounds-rows-i-in-loop-left
 bounds-rows-i-in-loop-left c = row c.before.before

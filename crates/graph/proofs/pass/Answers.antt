@@ -1,6 +1,5 @@
 use mathlib.Core.Path.{◌≡◌, sym, ap, ◌∙◌, subst}
 use mathlib.Core.List.{List}
-use mathlib.Core.Logic.{⊎_elim}
 use Prim.Native.Nat.{ℕ, ◌-◌, ◌<◌}
 use native.Mathlib.Omega.{arith}
 use Rattle.graph.specs.Graph.{ahead, rows_of}
@@ -9,6 +8,7 @@ use Rattle.graph.specs.PassRows.{same_rows}
 use Rattle.graph.proofs.Gathering.{pass-row, filled_none, filled_more, filled-all, Kept, kept_none, kept_more, kept_all, kept_still, same_whole}
 use Rattle.graph.proofs.pass.Invariants.{row}
 use Rattle.graph.proofs.pass.Goals as goal
+use Rattle.graph.proofs.pass.Goals.{Joined-subset32, After-loop-i, then-subset32, else-subset32}
 
 pub loop-i-init : goal.loop-i-init
 loop-i-init c = (omega arith, filled_none 32 c.args.n _, kept_none c.args.n _ _)
@@ -21,13 +21,16 @@ joined_still-more-requires c =
     )
 
 -- either way it is the row of the pass
-more-is : (c : goal.Joined-subset32) →
+more-is : (c : Joined-subset32) →
     c.if-subset32.more ≡ row c.args.n c.args.rows.now (c.loop-i.i - 1)
 more-is c =
     let l = c.loop-i in
     let n = c.args.n in
     let is = pass-row 32 n c.args.rows.now c.requires.0 c.requires.1 (l.i - 1) (omega (arith, c.loop-i-test.true, l.invariant.0)) in
-    ⊎_elim (λ w. w.3 ∙ w.2.ensures ∙ is) (λ w. w.3 ∙ w.2.ensures ∙ is) c.if-subset32.branch
+    elim c.if-subset32.branch [
+      | then-subset32 w ↦ w.more-is ∙ w.joined_still-more.ensures ∙ is
+      | else-subset32 w ↦ w.more-is ∙ w.joined-more.ensures ∙ is
+    ]
 
 pub loop-i-preserved : goal.loop-i-preserved
 loop-i-preserved c =
@@ -35,7 +38,7 @@ loop-i-preserved c =
     let n = c.args.n in
     let rows = c.args.rows.now in
     let some : 0 < l.i = omega (arith, c.loop-i-test.true) in
-    let is = more-is c in (
+    let is = more-is (goal.at.loop-i-preserved c).Joined-subset32 in (
       omega (arith, l.invariant.0),
       filled_more 32 n (row n rows) l.i l.next c.if-subset32.more c.requires.0 some l.invariant.0 l.invariant.1 is,
       subst (Kept n (row n rows) rows (l.i - 1)) (sym c.kept-still.ensures)
@@ -43,7 +46,7 @@ loop-i-preserved c =
     )
 
 -- at the loop's end: the rows apart are those of the pass, and the set is that of the rows that stay
-module _ (c : goal.After-loop-i) where
+module _ (c : After-loop-i) where
   abbrev n : ℕ
   n = c.args.n
 

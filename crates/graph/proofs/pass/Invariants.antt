@@ -1,5 +1,5 @@
 use mathlib.Core.List.{List}
-use Prim.Native.Nat.{ℕ, suc, ◌-◌, ◌≤◌}
+use Prim.Native.Nat.{ℕ, suc, ◌≤◌}
 use Rattle.graph.specs.Graph.{ahead, goals_of}
 use Rattle.graph.specs.Passes.{pass}
 use Rattle.graph.proofs.Gathering.{Filled, Kept}

@@ -14,22 +14,23 @@ use Rattle.graph.specs.PassRows.{same_rows}
 use Rattle.graph.specs.declared.Graph.{Graph}
 use Rattle.graph.proofs.Going.{Going, going_start, going-within, going_next, going_stop, going_on, going_end}
 use Rattle.graph.proofs.Graph.closed.Goals as goal
+use Rattle.graph.proofs.Graph.closed.Goals.{After-pass-still, Then-still-all, Else-still-all}
 
 pub below32-all-requires : goal.below32-all-requires
 below32-all-requires c = c.requires.0
 
 pub loop-passes-init : goal.loop-passes-init
-loop-passes-init c = (omega arith, omega arith, going_start 32 c.args.t1.n c.args.t1.rows c.requires.1)
+loop-passes-init c = (omega arith, omega arith, going_start 32 c.args.self.n c.args.self.rows c.requires.1)
 
 pub pass-still-requires : goal.pass-still-requires
 pass-still-requires c =
     let l = c.loop-passes in
-    (c.requires.0, going-within 32 c.args.t1.n c.args.t1.rows c.requires.0 (l.passes - 1) l.self.rows l.invariant.2)
+    (c.requires.0, going-within 32 c.args.self.n c.args.self.rows c.requires.0 (l.passes - 1) l.self.rows l.invariant.2)
 
 -- what the pass answers, and what it is compared with
-module _ (c : goal.After-pass-still) where
+module _ (c : After-pass-still) where
   abbrev g : Graph
-  g = c.args.t1
+  g = c.args.self
 
   abbrev rows : List ℕ
   rows = c.loop-passes.self.rows
@@ -45,21 +46,21 @@ module _ (c : goal.After-pass-still) where
   this = omega (arith, c.loop-passes.invariant.0)
 
   -- one that adds a wait is not the last
-  on : (c.pass-still.result ≡ c.below32-all.result → ⊥) → Going 32 g.n g.rows c.loop-passes.passes c.pass-still.new.0
+  on : (c.pass-still.result ≡ c.below32-all.result → ⊥) → Going 32 g.n g.rows c.loop-passes.passes c.pass-still.new.rows
   on h =
       let l = c.loop-passes in
       subst₂ (Going 32 g.n g.rows) this (sym c.pass-still.ensures.0)
       (going_on 32 g.n g.rows c.requires.0 (l.passes - 1) l.self.rows l.invariant.2 (λ e. h (answer ∙ e ∙ sym all)))
 
 -- where the loop is left, the rows are those after the last pass: the last that there can be has added none
-ended : (c : goal.Then-still-all) →
-    let g = g c in
+ended : (c : Then-still-all) →
+    let g = g c.before in
     let W = ahead g.rows in
-    (c.pass-still.new.0 ≡ rows_of 32 g.n (after g.n W (passes g.n W))) × (c.loop-passes.passes ≡ passes g.n W)
+    (c.pass-still.new.rows ≡ rows_of 32 g.n (after g.n W (passes g.n W))) × (c.loop-passes.passes ≡ passes g.n W)
 ended c = pick (ℕ_discrete still end)
   where
-    q : tie.After-pass invariant-loop decreases-loop
-    q = c
+    q : After-pass-still
+    q = c.before
 
     still : ℕ
     still = c.pass-still.result
@@ -71,12 +72,12 @@ ended c = pick (ℕ_discrete still end)
     made = c.loop-passes.passes
 
     n : ℕ
-    n = c.args.t1.n
+    n = c.args.self.n
 
     start : List ℕ
-    start = c.args.t1.rows
+    start = c.args.self.rows
 
-    pick : Dec (still ≡ end) → (c.pass-still.new.0 ≡ rows_of 32 n (after n (ahead start) (passes n (ahead start)))) × (made ≡ passes n (ahead start))
+    pick : Dec (still ≡ end) → (c.pass-still.new.rows ≡ rows_of 32 n (after n (ahead start) (passes n (ahead start)))) × (made ≡ passes n (ahead start))
     pick (yes e) =
         let l = c.loop-passes in
         let h = c.requires.0 in
@@ -88,18 +89,18 @@ ended c = pick (ℕ_discrete still end)
         ⊎_elim (λ t. absurd (e (eqb-true still end t)))
         (λ t.
         absurd
-        (going_end 32 n start 5 c.pass-still.new.0 c.requires.0
-        (subst (λ (k : ℕ). Going 32 n start k c.pass-still.new.0) (eqb-true made 6 t) (on q e))))
+        (going_end 32 n start 5 c.pass-still.new.rows c.requires.0
+        (subst (λ (k : ℕ). Going 32 n start k c.pass-still.new.rows) (eqb-true made 6 t) (on q e))))
         (or-true (eqb still end) (eqb made 6) c.if-still-all.true)
 
 pub returns-then-still-all : goal.returns-then-still-all
 unfolding closed_of
 returns-then-still-all c =
-    let is = ended c in
+    let is = ended c.before in
     ap₂ (λ (r : List ℕ) (k : ℕ). record { graph = record { n = (g c.before.before).n; rows = r }; passes = k }) is.0 is.1
 
 -- where it goes on, this was not the last that there can be
-more : (c : goal.Else-still-all) → (c.pass-still.result ≡ c.below32-all.result → ⊥) × (c.loop-passes.passes ≡ 6 → ⊥)
+more : (c : Else-still-all) → (c.pass-still.result ≡ c.below32-all.result → ⊥) × (c.loop-passes.passes ≡ 6 → ⊥)
 more c =
     let still = c.pass-still.result in
     let end = c.below32-all.result in
@@ -116,5 +117,5 @@ loop-passes-preserved c =
     let z : l.passes ≡ l.passes + 1 - 1 = omega arith in (
       omega arith,
       omega (arith, l.invariant.1, (more c).1),
-      subst (λ (k : ℕ). Going 32 (g c.before).n (g c.before).rows k c.pass-still.new.0) z (on c.before (more c).0),
+      subst (λ (k : ℕ). Going 32 (g c.before).n (g c.before).rows k c.pass-still.new.rows) z (on c.before (more c).0),
     )

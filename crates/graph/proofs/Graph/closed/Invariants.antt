@@ -1,5 +1,4 @@
 use Prim.Native.Nat.{◌-◌, ◌≤◌}
-use Rattle.graph.specs.Passes.{pass, passes}
 use Rattle.graph.proofs.Going.{Going}
 use Rattle.graph.proofs.Graph.closed.Given as goal
 
