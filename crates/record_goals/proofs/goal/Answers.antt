@@ -14,5 +14,5 @@ returns c =
     steps a.b.now a.at a.v a.k _ a.before a.met c.requires.2 c.requires.3 c.text_at-text.ensures.value _ _ _ _ _ _ _ _ _ _ _ _ _ _ _ _
     c.length_at-at_length.ensures.value c.find_bad-bad.ensures c.set_at-set.ensures c.ground_of-grounded.ensures
     c.ticks_of.ensures c.within.ensures c.grows-grown.ensures c.ticks_fine-timed.ensures
-    c.length_fine.ensures c.also.ensures c.also-s-2.ensures c.also-s-3.ensures
+    c.length_fine.ensures c.also-s.ensures c.also-s-2.ensures c.also-s-3.ensures
     c.also-s-4.ensures c.also-s-5.ensures c.also-s-6.ensures c.also.ensures
