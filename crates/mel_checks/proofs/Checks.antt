@@ -1,22 +1,18 @@
 -- Laws of the texts of a stage's checks.
 use mathlib.Core.Path.{◌≡◌, refl, sym, ap, ap₂, ◌∙◌}
 use mathlib.Core.Logic.{inl, inr}
-use mathlib.Core.Bool.{Bool, true, false}
+use mathlib.Core.Bool.{Bool, true}
 use mathlib.Core.List.{List, [], ◌∷◌, ◌++◌, map, append_assoc}
-use Prim.Native.Nat.{ℕ, suc, ◌+◌, ◌-◌, ◌≤◌, ◌<◌, ◌^◌, suc-le-suc}
-use native.Mathlib.Nat.{le_refl}
-use native.Mathlib.Numerals.{add-one}
+use Prim.Native.Nat.{ℕ, ◌+◌, ◌<◌, ◌^◌}
 use native.Mathlib.Omega.{arith}
-use lib.Dec.{ltb}
 use lib.ListN.{length, get_or, length-append}
 use lib.Seq as Q
-use borrow.Author.Tests.{lt-ltb, le-ltb}
 use Rattle.sets.specs.Sets.{without, single, first, members}
 use Rattle.sets.proofs.Members.{In, in_members, members_step, members-none}
-use Rattle.buffer.specs.Text.{join_from, only}
+use Rattle.buffer.specs.Text.{only}
 use Rattle.buffer.specs.Decimal.{decimal}
 use Rattle.buffer.proofs.Writing.{join_step, join_none}
-use Rattle.mel_stages.specs.Mel.{Check, Ground, Indep, goals_from, check_text, checks_from, arrow_if, goals_text}
+use Rattle.mel_stages.specs.Mel.{Check, Ground, Indep, check_text, checks_from}
 use Rattle.mel_stages.specs.Masks.{goal_with, apart, partners, OwnGoals}
 use Rattle.mel_checks.specs.CheckTexts.{item, grounds_text, row_text, pairs_of, pairs_text, rows_of, rows_text}
 

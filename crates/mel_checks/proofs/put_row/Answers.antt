@@ -11,14 +11,15 @@ use Rattle.mel_checks.specs.CheckTexts as X
 use Rattle.mel_checks.proofs.Checks.{row_step, row-end}
 use borrow.Author.Rules.{rules}
 use Rattle.mel_checks.proofs.put_row.Goals as goal
+use Rattle.mel_checks.proofs.put_row.Goals.{After-first-y}
 
 -- what a turn writes, and what it leaves
-turn : (c : goal.After-first-y) →
+turn : (c : After-first-y) →
     let l = c.loop-rest in
     X.row_text 64 c.args.x l.rest ≡ X.item (W.Indep c.args.x c.first-y.result) ++ X.row_text 64 c.args.x (without l.rest (single (first 64 l.rest)))
 turn c = rw c.first-y.ensures (row_step 64 _ _ c.loop-rest.invariant.0 c.loop-rest-test.true)
 
-small : (c : goal.After-first-y) → c.first-y.result < 64
+small : (c : After-first-y) → c.first-y.result < 64
 small c = rw c.first-y.ensures (first_in_lem 64 _ c.loop-rest.invariant.0 c.loop-rest-test.true)
 
 pub loop-rest-init : goal.loop-rest-init
@@ -28,10 +29,10 @@ pub first-y-requires : goal.first-y-requires
 first-y-requires c = tt
 
 pub overflow_cast-y : goal.overflow_cast-y
-overflow_cast-y c = omega (arith, small c.before)
+overflow_cast-y c = omega (arith, small (goal.at.overflow_cast-y c).After-first-y)
 
 pub put_indep-o-requires : goal.put_indep-o-requires
-put_indep-o-requires c = record { x_bound = (omega arith, omega (arith, small c.before)); y_bound = omega (arith, simp length-append at (ap length (turn c.before))) }
+put_indep-o-requires c = record { x_bound = (omega arith, omega (arith, small (goal.at.put_indep-o-requires c).After-first-y)); y_bound = omega (arith, simp length-append at (ap length (turn (goal.at.put_indep-o-requires c).After-first-y))) }
 
 pub without_first-rest-requires : goal.without_first-rest-requires
 without_first-rest-requires c = omega (arith, c.loop-rest-test.true)
@@ -40,7 +41,7 @@ pub loop-rest-smaller : goal.loop-rest-smaller
 loop-rest-smaller c = rw c.without_first-rest.ensures (fewer 64 _ c.loop-rest.invariant.0 c.loop-rest-test.true)
 
 pub loop-rest-preserved : goal.loop-rest-preserved
-loop-rest-preserved c = (c.without_first-rest.type_inv, rw c.without_first-rest.ensures (onward c.loop-rest.invariant.1 c.put_indep-o.ensures (turn c.before.before.before.before.before)))
+loop-rest-preserved c = (c.without_first-rest.type_inv, rw c.without_first-rest.ensures (onward c.loop-rest.invariant.1 c.put_indep-o.ensures (turn (goal.at.loop-rest-preserved c).After-first-y)))
 
 pub shape_of-out : goal.shape_of-out
 shape_of-out c = left_kept c.loop-rest.invariant.1

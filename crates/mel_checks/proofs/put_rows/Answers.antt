@@ -10,12 +10,13 @@ use Rattle.mel_checks.specs.CheckTexts as X
 use Rattle.mel_checks.proofs.Checks.{rows_step, rows_end}
 use borrow.Author.Rules.{rules}
 use Rattle.mel_checks.proofs.put_rows.Goals as goal
+use Rattle.mel_checks.proofs.put_rows.Goals.{After-first-x, After-partners-others}
 
-small : (c : goal.After-first-x) → c.first-x.result < 64
+small : (c : After-first-x) → c.first-x.result < 64
 small c = rw c.first-x.ensures (first_in_lem 64 _ c.loop-rest.invariant.0 c.loop-rest-test.true)
 
 -- what a turn writes, and what it leaves
-turn : (c : goal.After-partners-others) →
+turn : (c : After-partners-others) →
     let l = c.loop-rest in
     let a = c.args in
     X.rows_text 64 a.own.now a.listed.now a.k l.rest
@@ -32,31 +33,31 @@ pub first-x-requires : goal.first-x-requires
 first-x-requires c = tt
 
 pub overflow_cast-x : goal.overflow_cast-x
-overflow_cast-x c = omega (arith, small c)
+overflow_cast-x c = omega (arith, small (goal.at.overflow_cast-x c).After-first-x)
 
 pub offset_bounds-listed-x : goal.offset_bounds-listed-x
-offset_bounds-listed-x c = omega (arith, small c)
+offset_bounds-listed-x c = omega (arith, small (goal.at.offset_bounds-listed-x c).After-first-x)
 
 pub bounds-listed-x : goal.bounds-listed-x
-bounds-listed-x c = omega (arith, small c.before)
+bounds-listed-x c = omega (arith, small (goal.at.bounds-listed-x c).After-first-x)
 
 pub overflow_cast-x-in-loop-rest : goal.overflow_cast-x-in-loop-rest
-overflow_cast-x-in-loop-rest c = omega (arith, small c.before.before)
+overflow_cast-x-in-loop-rest c = omega (arith, small (goal.at.overflow_cast-x-in-loop-rest c).After-first-x)
 
 pub offset_bounds-own-x : goal.offset_bounds-own-x
-offset_bounds-own-x c = omega (arith, small c.before.before)
+offset_bounds-own-x c = omega (arith, small (goal.at.offset_bounds-own-x c).After-first-x)
 
 pub bounds-own-x : goal.bounds-own-x
-bounds-own-x c = omega (arith, small c.before.before.before)
+bounds-own-x c = omega (arith, small (goal.at.bounds-own-x c).After-first-x)
 
 pub partners-others-requires : goal.partners-others-requires
-partners-others-requires c = small c.before.before.before.before
+partners-others-requires c = small (goal.at.partners-others-requires c).After-first-x
 
 pub overflow_cast-x-in-loop-rest-2 : goal.overflow_cast-x-in-loop-rest-2
-overflow_cast-x-in-loop-rest-2 c = omega (arith, small c.before.before.before.before.before.before)
+overflow_cast-x-in-loop-rest-2 c = omega (arith, small (goal.at.overflow_cast-x-in-loop-rest-2 c).After-first-x)
 
 pub put_row-o-requires : goal.put_row-o-requires
-put_row-o-requires c = record { x_bound = omega (arith, small c.before.before.before.before.before.before); m_bound = omega (arith, simp length-append at (ap length (turn c.before))) }
+put_row-o-requires c = record { x_bound = omega (arith, small (goal.at.put_row-o-requires c).After-first-x); m_bound = omega (arith, simp length-append at (ap length (turn (goal.at.put_row-o-requires c).After-partners-others))) }
 
 pub without_first-rest-requires : goal.without_first-rest-requires
 without_first-rest-requires c = omega (arith, c.loop-rest-test.true)
@@ -65,7 +66,7 @@ pub loop-rest-smaller : goal.loop-rest-smaller
 loop-rest-smaller c = rw c.without_first-rest.ensures (fewer 64 _ c.loop-rest.invariant.0 c.loop-rest-test.true)
 
 pub loop-rest-preserved : goal.loop-rest-preserved
-loop-rest-preserved c = (c.without_first-rest.type_inv, rw c.without_first-rest.ensures (onward c.loop-rest.invariant.1 c.put_row-o.ensures (turn c.before.before.before.before.before)))
+loop-rest-preserved c = (c.without_first-rest.type_inv, rw c.without_first-rest.ensures (onward c.loop-rest.invariant.1 c.put_row-o.ensures (turn (goal.at.loop-rest-preserved c).After-partners-others)))
 
 pub shape_of-out : goal.shape_of-out
 shape_of-out c = left_kept c.loop-rest.invariant.1
