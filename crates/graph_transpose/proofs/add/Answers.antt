@@ -1,8 +1,8 @@
 use native.Mathlib.Omega.{arith}
 use mathlib.Core.Path.{◌≡◌, sym, ap, ◌∙◌}
 use mathlib.Core.Bool.{Bool, true, false, cond}
-use mathlib.Core.Logic.{⊎_elim}
-use Prim.Native.Nat.{ℕ, ◌-◌}
+use Rattle.graph_transpose.proofs.add.Goals.{then-has32, else-has32}
+use Prim.Native.Nat.{ℕ}
 use lib.ListN.{get_or}
 use Rattle.sets.specs.Sets.{union}
 use Rattle.logic.specs.Table.{table}
@@ -27,7 +27,10 @@ loop-j-preserved c =
     in (
       omega arith,
       table_more 32 l.j _ l.next c.if-has32.next (omega arith) l.invariant.1
-          (⊎_elim (λ w. w.2 ∙ w.1.ensures ∙ is true w.0.taken) (λ w. w.1 ∙ is false w.0.left) c.if-has32.branch),
+          (elim c.if-has32.branch [
+            | then-has32 w ↦ w.next-is ∙ w.union32.ensures ∙ is true w.if-has32.true
+            | else-has32 w ↦ w.next-is ∙ is false w.if-has32.false
+          ]),
     )
 
 pub returns : goal.returns

@@ -1,6 +1,6 @@
 use native.Mathlib.Omega.{arith}
 use mathlib.Core.Path.{◌≡◌, subst}
-use Prim.Native.Nat.{ℕ, ◌-◌}
+use Prim.Native.Nat.{ℕ}
 use Rattle.graph_transpose.proofs.Turning.{Turned, turned-size, turned_none, turned_more, turned-all}
 use Rattle.graph_transpose.proofs.transpose.Goals as goal
 
