@@ -11,4 +11,4 @@ returns c =
     let a = c.args in
     let e : a.a + 1 - 1 ≡ a.a = omega arith in
     c.without32.ensures
-    ∙ ap₂ without (c.without32.ensures ∙ ap (without a.lead) c.related-near_a.ensures) (c.single-one.ensures ∙ ap single e)
+    ∙ ap₂ without (c.without32-apart.ensures ∙ ap (without a.lead) c.related-near_a.ensures) (c.single-one.ensures ∙ ap single e)
