@@ -6,9 +6,10 @@ use lib.ListN.{get_or}
 use Rattle.mel_stages.specs.Masks as M
 use Rattle.mel_stages.proofs.Masks.{upto_at}
 use Rattle.mel_text.proofs.checks_of.Goals as goal
+use Rattle.mel_text.proofs.checks_of.Goals.{After-goal-grounded}
 
 -- the variables before the stage
-met : (c : goal.After-goal-grounded) →
+met : (c : After-goal-grounded) →
     let a = c.args in
     get_or a.before.now a.p 0 ≡ M.once a.sets.now 0 a.p
 met c =
@@ -24,5 +25,5 @@ bounds-before-p c = omega arith
 
 pub returns : goal.returns
 returns c =
-    rw (c.without.ensures, c.candidates-pairs.ensures, c.counted-s.ensures.0, c.counted-s.ensures.1, c.union-met.ensures, met c.before.before.before.before.before.before, c.goal-grounded.ensures)
-    (refl, refl)
+    rw (c.without.ensures, c.candidates-pairs.ensures, c.counted-s.ensures.0, c.counted-s.ensures.1, c.union-met.ensures, met (goal.at.returns c).After-goal-grounded, c.goal-grounded.ensures)
+    (record { ground_value = refl; pairs_value = refl })

@@ -9,9 +9,10 @@ use Rattle.mel_checks.specs.CheckTexts as Y
 use Rattle.mel_text.specs.StageTexts as X
 use Rattle.mel_text.proofs.Stages.{checks-parts}
 use Rattle.mel_text.proofs.put_checks.Goals as goal
+use Rattle.mel_text.proofs.put_checks.Goals.{After-checks_of-c}
 
 -- the two parts of the text
-parts : (c : goal.After-checks_of-c) →
+parts : (c : After-checks_of-c) →
     let a = c.args in
     let k : ℕ = c.checks_of-c.result.pairs in
     Y.grounds_text 64 c.checks_of-c.result.grounded ++ Y.pairs_text 64 a.sets.now a.listed.now a.p a.q k k ≡ X.checks_text 64 a.head a.sets.now a.grounds.now a.listed.now true a.p a.q
@@ -21,10 +22,10 @@ pub checks_of-c-requires : goal.checks_of-c-requires
 checks_of-c-requires c = record { p_le_q = (omega arith, (omega arith, omega arith)); before_value = (search) }
 
 pub put_grounds-o-requires : goal.put_grounds-o-requires
-put_grounds-o-requires c = omega (arith, simp length-append at (ap length (parts c.before)))
+put_grounds-o-requires c = omega (arith, simp length-append at (ap length (parts (goal.at.put_grounds-o-requires c).After-checks_of-c)))
 
 pub put_pairs-requires : goal.put_pairs-requires
-put_pairs-requires c = record { p_le_q = (omega arith, omega arith); k_bound = omega (arith, simp length-append at (ap length (parts c.before.before.before.before.before))) }
+put_pairs-requires c = record { p_le_q = (omega arith, omega arith); k_bound = omega (arith, simp length-append at (ap length (parts (goal.at.put_pairs-requires c).After-checks_of-c))) }
 
 pub returns : goal.returns
-returns c = recast (parts c.before.before.before.before.before.before.before.before) (then c.put_grounds-o.ensures c.put_pairs.ensures)
+returns c = recast (parts (goal.at.returns c).After-checks_of-c) (then c.put_grounds-o.ensures c.put_pairs.ensures)

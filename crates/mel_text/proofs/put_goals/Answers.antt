@@ -1,4 +1,4 @@
-use Prim.Native.Nat.{ℕ, ◌+◌, ◌-◌}
+use Prim.Native.Nat.{ℕ, ◌+◌}
 use mathlib.Core.Path.{◌≡◌, ap}
 use mathlib.Core.List.{◌++◌}
 use native.Mathlib.Omega.{arith}
@@ -9,8 +9,9 @@ use Rattle.buffer.specs.Decimal.{decimal}
 use Rattle.buffer.proofs.Writing.{start, onward, done, left_kept, then}
 use Rattle.mel_text.proofs.Goals.{goals_left, goals-whole, goals-step, goals-end}
 use Rattle.mel_text.proofs.put_goals.Goals as goal
+use Rattle.mel_text.proofs.put_goals.Goals.{In-loop-g}
 
-turn : (c : goal.In-loop-g) →
+turn : (c : In-loop-g) →
     let l = c.loop-g in
     let p : ℕ = c.args.p in
     let q : ℕ = c.args.q in
@@ -27,13 +28,13 @@ pub overflow_add-g : goal.overflow_add-g
 overflow_add-g c = omega arith
 
 pub put_number-o-requires : goal.put_number-o-requires
-put_number-o-requires c = omega (arith, simp length-append at (ap length (turn c.before.before.before.before.before)))
+put_number-o-requires c = omega (arith, simp length-append at (ap length (turn (goal.at.put_number-o-requires c).In-loop-g)))
 
 pub loop-g-smaller : goal.loop-g-smaller
 loop-g-smaller c = omega arith
 
 pub loop-g-preserved : goal.loop-g-preserved
-loop-g-preserved c = (omega arith, (omega arith, onward c.loop-g.invariant.1.1 (then c.put_if-o.ensures c.put_number-o.ensures) (turn c.before.before.before.before.before.before.before.before)))
+loop-g-preserved c = (omega arith, (omega arith, onward c.loop-g.invariant.1.1 (then c.put_if-o.ensures c.put_number-o.ensures) (turn (goal.at.loop-g-preserved c).In-loop-g)))
 
 pub shape_of-out : goal.shape_of-out
 shape_of-out c = left_kept c.loop-g.invariant.1.1
