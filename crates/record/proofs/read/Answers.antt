@@ -1,5 +1,4 @@
 use mathlib.Core.Path.{sym, ◌∙◌}
-use mathlib.Core.Logic.{⊎_elim}
 use native.Mathlib.Omega.{arith}
 use borrow.Author.Tests.{leb-true}
 use lib.ListN.{length}
@@ -7,6 +6,7 @@ use Rattle.record_fields.specs.Fields.{header_size}
 use Rattle.record_rules.proofs.Fine.{header_go, header_stop}
 use Rattle.record_header.proofs.HeaderSteps.{header_short}
 use Rattle.record.proofs.read.Goals as goal
+use Rattle.record.proofs.read.Goals.{then-size_fine+else-header_fine, else-size_fine}
 
 pub whole_set-head-requires : goal.whole_set-head-requires
 whole_set-head-requires c =
@@ -29,4 +29,4 @@ pub returns : goal.returns
 returns c =
     let b = c.args.b.now in
     c.header.ensures
-    ∙ header_stop b (⊎_elim (λ w. sym w.3.ensures ∙ w.4.left) (λ w. sym (header_short b (sym c.size_fine.ensures ∙ w.left))) c.if-size_fine.branch)
+    ∙ header_stop b (elim c.if-size_fine.branch [ then-size_fine+else-header_fine w ↦ sym w.header_fine.ensures ∙ w.if-header_fine.false | else-size_fine w ↦ sym (header_short b (sym c.size_fine.ensures ∙ w.if-size_fine.false)) ])
