@@ -8,6 +8,7 @@ use Rattle.record_fields.specs.Fields as F
 use Rattle.clause.specs.declared.Clause.{Clause}
 use Rattle.clause.specs.Clause.{goal_sets, ground_sets, goal_ticks, pair_rows, decoded}
 use Rattle.clause.proofs.decode.Goals as goal
+use Rattle.clause.proofs.decode.Goals.{After-take_goals}
 
 pub whole_set-head-requires : goal.whole_set-head-requires
 whole_set-head-requires c = omega (arith, c.requires.header_whole)
@@ -22,10 +23,10 @@ pairs_end c =
     ap (λ (p : ℕ). F.pair_at b p) c.pair_count-p.ensures.value ∙ c.requires.nothing_left
 
 pub overflow_sub-b : goal.overflow_sub-b
-overflow_sub-b c = omega (arith, pairs_end c)
+overflow_sub-b c = omega (arith, pairs_end (goal.at.overflow_sub-b c).After-take_goals)
 
 pub take_pairs-requires : goal.take_pairs-requires
-take_pairs-requires c = (c.requires, omega (arith, pairs_end c.before), c.pair_count-p.ensures.value, refl)
+take_pairs-requires c = (c.requires, omega (arith, pairs_end (goal.at.take_pairs-requires c).After-take_goals), c.pair_count-p.ensures.value, refl)
 
 -- the clause, field by field
 fields : (b : List ℕ) (n v p head : ℕ) (sets grounds ticks listed : List ℕ) → n ≡ F.goal_count b → v ≡ F.var_count b → p ≡ F.pair_count b → head ≡ F.head_set b
@@ -37,4 +38,4 @@ fields b n v p head sets grounds ticks listed en ev ep eh es eg et el = rw (en, 
 pub returns : goal.returns
 returns c =
     fields c.args.b.now _ _ _ _ _ _ _ _ c.goal_count-n.ensures.value c.var_count-v.ensures.value c.pair_count-p.ensures.value
-    c.whole_set-head.ensures c.take_goals.ensures.sets_after c.take_goals.ensures.grounds_after.0 c.take_goals.ensures.grounds_after.1 c.take_pairs.ensures
+    c.whole_set-head.ensures c.take_goals.ensures.sets_after c.take_goals.ensures.grounds_after c.take_goals.ensures.ticks_after c.take_pairs.ensures

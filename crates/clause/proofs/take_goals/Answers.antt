@@ -1,4 +1,4 @@
-use Prim.Native.Nat.{ℕ, ◌≤◌, ◌<◌, ◌+◌, ◌-◌}
+use Prim.Native.Nat.{ℕ, ◌≤◌, ◌<◌, ◌+◌}
 use mathlib.Core.Path.{◌≡◌, sym, ap, ◌∙◌, subst}
 use native.Mathlib.Omega.{arith}
 use lib.ListN.{length}
@@ -10,6 +10,7 @@ use Rattle.record_fields.proofs.Facts.{length-between, length_moves}
 use Rattle.record.proofs.Limits.{goal_there, place_limit}
 use Rattle.clause.proofs.GoalFacts as G
 use Rattle.clause.proofs.take_goals.Goals as goal
+use Rattle.clause.proofs.take_goals.Goals.{In-loop-g}
 
 -- the goal is there
 there : (c : goal.In-loop-g)
@@ -36,50 +37,50 @@ loop-g-init c =
     (omega arith, place-zero _, c.requires.2 ∙ G.facts_zero goal_limit _, c.requires.3 ∙ G.facts_zero goal_limit _, c.requires.4 ∙ G.facts_zero goal_limit _)
 
 pub overflow_add-at : goal.overflow_add-at
-overflow_add-at c = omega (arith, there c)
+overflow_add-at c = omega (arith, there (goal.at.overflow_add-at c).In-loop-g)
 
 pub whole_set-requires : goal.whole_set-requires
-whole_set-requires c = omega (arith, there c)
+whole_set-requires c = omega (arith, there (goal.at.whole_set-requires c).In-loop-g)
 
 pub offset_bounds-sets-g : goal.offset_bounds-sets-g
-offset_bounds-sets-g c = omega (arith, there c.before)
+offset_bounds-sets-g c = omega (arith, there (goal.at.offset_bounds-sets-g c).In-loop-g)
 
 pub bounds-sets-g : goal.bounds-sets-g
-bounds-sets-g c = omega (arith, there c.before.before)
+bounds-sets-g c = omega (arith, there (goal.at.bounds-sets-g c).In-loop-g)
 
 pub whole_ground-requires : goal.whole_ground-requires
 whole_ground-requires c =
-    (omega (arith, there c.before.before), c.own_facts-own.ensures, λ e. c.whole_set.ensures)
+    (omega (arith, there (goal.at.whole_ground-requires c).In-loop-g), c.own_facts-own.ensures, λ e. c.whole_set-grounded.ensures)
 
 pub offset_bounds-grounds-g : goal.offset_bounds-grounds-g
-offset_bounds-grounds-g c = omega (arith, there c.before.before.before)
+offset_bounds-grounds-g c = omega (arith, there (goal.at.offset_bounds-grounds-g c).In-loop-g)
 
 pub bounds-grounds-g : goal.bounds-grounds-g
-bounds-grounds-g c = omega (arith, there c.before.before.before.before)
+bounds-grounds-g c = omega (arith, there (goal.at.bounds-grounds-g c).In-loop-g)
 
 pub ticks_of-requires : goal.ticks_of-requires
-ticks_of-requires c = (omega (arith, there c.before.before.before.before), c.own_facts-own.ensures)
+ticks_of-requires c = (omega (arith, there (goal.at.ticks_of-requires c).In-loop-g), c.own_facts-own.ensures)
 
 pub offset_bounds-ticks-g : goal.offset_bounds-ticks-g
-offset_bounds-ticks-g c = omega (arith, there c.before.before.before.before.before)
+offset_bounds-ticks-g c = omega (arith, there (goal.at.offset_bounds-ticks-g c).In-loop-g)
 
 pub bounds-ticks-g : goal.bounds-ticks-g
-bounds-ticks-g c = omega (arith, there c.before.before.before.before.before.before)
+bounds-ticks-g c = omega (arith, there (goal.at.bounds-ticks-g c).In-loop-g)
 
 pub length_at-requires : goal.length_at-requires
-length_at-requires c = (omega (arith, there c.before.before.before.before.before.before), c.own_facts-own.ensures)
+length_at-requires c = (omega (arith, there (goal.at.length_at-requires c).In-loop-g), c.own_facts-own.ensures)
 
 pub bounds-b-length_at : goal.bounds-b-length_at
-bounds-b-length_at c = omega (arith, there c.before.before.before.before.before.before.before.before, c.length_at.ensures.value)
+bounds-b-length_at c = omega (arith, there (goal.at.bounds-b-length_at c).In-loop-g, c.length_at.ensures.value)
 
 pub text_at-fixed-requires : goal.text_at-fixed-requires
-text_at-fixed-requires c = (omega (arith, there c.before.before.before.before.before.before.before.before.before), c.own_facts-own.ensures)
+text_at-fixed-requires c = (omega (arith, there (goal.at.text_at-fixed-requires c).In-loop-g), c.own_facts-own.ensures)
 
 pub overflow_add-texts : goal.overflow_add-texts
-overflow_add-texts c = omega (arith, there c.before.before.before.before.before.before.before.before.before.before)
+overflow_add-texts c = omega (arith, there (goal.at.overflow_add-texts c).In-loop-g)
 
 pub overflow_add-g : goal.overflow_add-g
-overflow_add-g c = omega (arith, there c.before.before.before.before.before.before.before.before.before.before)
+overflow_add-g c = omega (arith, there (goal.at.overflow_add-g c).In-loop-g)
 
 pub loop-g-smaller : goal.loop-g-smaller
 loop-g-smaller c = omega arith
@@ -89,7 +90,7 @@ loop-g-preserved c =
     let l = c.loop-g in
     let b = c.args.b.now in
     let at = l.fixed + l.texts in
-    let h = (there c.before.before.before.before.before.before.before.before.before.before).0 in
+    let h = (there (goal.at.loop-g-preserved c).In-loop-g).0 in
     let p = l.invariant.1 in
     let text = c.size_of-length.ensures.value ∙ ap (F.byte b) c.length_at.ensures.value in
     let end : c.text_at-fixed.result + (l.texts + c.size_of-length.result) ≡ F.goal_end b at =
@@ -106,4 +107,8 @@ returns c =
     let l = c.loop-g in
     let b = c.args.b.now in
     let e : l.g ≡ F.goal_count b = omega (arith, c.requires.1) in
-    (l.invariant.2 ∙ G.sets_all goal_limit b l.g e, (l.invariant.3 ∙ G.grounds_all goal_limit b l.g e, l.invariant.4 ∙ G.ticks-all goal_limit b l.g e))
+    record {
+      sets_after = l.invariant.2 ∙ G.sets_all goal_limit b l.g e;
+      grounds_after = l.invariant.3 ∙ G.grounds_all goal_limit b l.g e;
+      ticks_after = l.invariant.4 ∙ G.ticks-all goal_limit b l.g e;
+    }

@@ -1,5 +1,5 @@
 use mathlib.Core.List.{List}
-use Prim.Native.Nat.{ℕ, ◌≤◌, ◌<◌, ◌*◌, ◌+◌, ◌-◌}
+use Prim.Native.Nat.{ℕ, ◌≤◌, ◌<◌, ◌*◌, ◌+◌}
 use mathlib.Core.Path.{◌≡◌, sym, ap, ◌∙◌, subst}
 use native.Mathlib.Omega.{arith}
 use lib.ListN.{length, get_or, get_or-replicate}
@@ -7,6 +7,7 @@ use Rattle.record_fields.specs.Fields as F
 use Rattle.record.proofs.Limits.{lower_below, higher_below}
 use Rattle.clause.proofs.PairRows.{rows_zero, rows_turn, row_kept, rows_all}
 use Rattle.clause.proofs.take_pairs.Goals as goal
+use Rattle.clause.proofs.take_pairs.Goals.{In-loop-k}
 
 -- the pair is there, of variables below 64
 there : (c : goal.In-loop-k)
@@ -29,46 +30,46 @@ pub loop-k-init : goal.loop-k-init
 loop-k-init c = let e = c.requires.3 in (omega arith, e ∙ rows_zero 64 _, omega arith, sym (ap (λ (l : List ℕ). get_or l 0 0) e ∙ get_or-replicate 64 0 0 0 (omega arith)))
 
 pub overflow_mul-at : goal.overflow_mul-at
-overflow_mul-at c = omega (arith, there c)
+overflow_mul-at c = omega (arith, there (goal.at.overflow_mul-at c).In-loop-k)
 
 pub overflow_add-at : goal.overflow_add-at
-overflow_add-at c = omega (arith, there c)
+overflow_add-at c = omega (arith, there (goal.at.overflow_add-at c).In-loop-k)
 
 pub bounds-b-at : goal.bounds-b-at
-bounds-b-at c = omega (arith, there c.before)
+bounds-b-at c = omega (arith, there (goal.at.bounds-b-at c).In-loop-k)
 
 pub overflow_add-at-in-loop-k : goal.overflow_add-at-in-loop-k
-overflow_add-at-in-loop-k c = omega (arith, there c.before.before)
+overflow_add-at-in-loop-k c = omega (arith, there (goal.at.overflow_add-at-in-loop-k c).In-loop-k)
 
 pub bounds-b-at-in-loop-k : goal.bounds-b-at-in-loop-k
-bounds-b-at-in-loop-k c = omega (arith, there c.before.before.before)
+bounds-b-at-in-loop-k c = omega (arith, there (goal.at.bounds-b-at-in-loop-k c).In-loop-k)
 
 pub row_of-requires : goal.row_of-requires
-row_of-requires c = (omega (arith, there c.before.before.before.before), c.loop-k.invariant.3)
+row_of-requires c = (omega (arith, there (goal.at.row_of-requires c).In-loop-k), c.loop-k.invariant.3)
 
 pub overflow_shl-row : goal.overflow_shl-row
-overflow_shl-row c = omega (arith, there c.before.before.before.before.before)
+overflow_shl-row c = omega (arith, there (goal.at.overflow_shl-row c).In-loop-k)
 
 pub offset_bounds-listed-i : goal.offset_bounds-listed-i
 offset_bounds-listed-i c = omega arith
 
 pub bounds-listed-i : goal.bounds-listed-i
-bounds-listed-i c = omega (arith, there c.before.before.before.before.before.before)
+bounds-listed-i c = omega (arith, there (goal.at.bounds-listed-i c).In-loop-k)
 
 pub offset_bounds-listed-j : goal.offset_bounds-listed-j
 offset_bounds-listed-j c = omega arith
 
 pub bounds-listed-j : goal.bounds-listed-j
-bounds-listed-j c = omega (arith, there c.before.before.before.before.before.before)
+bounds-listed-j c = omega (arith, there (goal.at.bounds-listed-j c).In-loop-k)
 
 pub overflow_shl-listed : goal.overflow_shl-listed
-overflow_shl-listed c = omega (arith, there c.before.before.before.before.before.before.before)
+overflow_shl-listed c = omega (arith, there (goal.at.overflow_shl-listed c).In-loop-k)
 
 pub offset_bounds-listed-j-in-loop-k : goal.offset_bounds-listed-j-in-loop-k
 offset_bounds-listed-j-in-loop-k c = omega arith
 
 pub bounds-listed-j-in-loop-k : goal.bounds-listed-j-in-loop-k
-bounds-listed-j-in-loop-k c = omega (arith, there c.before.before.before.before.before.before.before)
+bounds-listed-j-in-loop-k c = omega (arith, there (goal.at.bounds-listed-j-in-loop-k c).In-loop-k)
 
 pub overflow_add-k : goal.overflow_add-k
 overflow_add-k c = omega arith
@@ -80,7 +81,7 @@ pub loop-k-preserved : goal.loop-k-preserved
 loop-k-preserved c =
     let l = c.loop-k in
     let b = c.args.b.now in
-    let h = there c in
+    let h = there (goal.at.loop-k-preserved c).In-loop-k in
     let low = c.size_of-i.ensures.value in
     let high = c.size_of-j.ensures.value in
     let place : c.args.from + 2 * l.k ≡ F.pair_at b l.k = ap (λ (x : ℕ). x + 2 * l.k) c.requires.1 in
