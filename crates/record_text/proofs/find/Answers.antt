@@ -7,7 +7,7 @@ pub goal_place-at-requires : goal.goal_place-at-requires
 goal_place-at-requires c =
     let b = c.args.bytes.now in
     let g = c.args.goal in
-    let w = read_well_formed b c.read.ensures c.enum_told-1.given.1 in
+    let w = read_well_formed b c.read.ensures c.in-Fine.is in
     let r = in_range b g w (tested b g c.inside.ensures c.if-inside.true c.goal_count-n.ensures.value) in
     (omega arith, omega arith)
 
@@ -21,14 +21,14 @@ pub returns-then-inside : goal.returns-then-inside
 returns-then-inside c =
     let b = c.args.bytes.now in
     let g = c.args.goal in
-    text_at_lem b g c.read.ensures c.enum_told-1.given.1 (tested b g c.inside.ensures c.if-inside.true c.goal_count-n.ensures.value)
+    text_at_lem b g c.read.ensures c.in-Fine.is (tested b g c.inside.ensures c.if-inside.true c.goal_count-n.ensures.value)
     c.goal_place-at.ensures.value c.text_at-place.ensures.value c.text_length_at-size.ensures.value
 
 pub returns-in-Refused : goal.returns-in-Refused
-returns-in-Refused c = text-refused _ _ _ c.read.ensures c.r-1.given.1
+returns-in-Refused c = text-refused _ _ _ c.read.ensures c.in-Refused.is
 
 pub returns-else-inside : goal.returns-else-inside
 returns-else-inside c =
     let b = c.args.bytes.now in
     let g = c.args.goal in
-    text_outside b g c.read.ensures c.enum_told-1.given.1 (tested b g c.inside.ensures c.if-inside.false c.goal_count-n.ensures.value)
+    text_outside b g c.read.ensures c.in-Fine.is (tested b g c.inside.ensures c.if-inside.false c.goal_count-n.ensures.value)
