@@ -9,9 +9,9 @@
  *
  * A record has version 1, or version 2 with a ground set and ticks at each goal.
  *
- * Link with liblfj.a, which `rt staticlib lfj` writes to target/staticlib. A program that
- * calls the dispatcher, lfj_start or lfj_tick, is linked with liblfj_dispatch.a too, from
- * `rt staticlib lfj_dispatch`.
+ * Link with liblfj.a, which `sh scripts/static-library.sh` writes to target/staticlib. A
+ * program that calls the dispatcher, lfj_start or lfj_tick, is linked with liblfj_dispatch.a
+ * too, which stands beside it.
  *
  * WHAT A CALLER OWES. The proof takes these for granted, and nothing tests them:
  *   - No pointer is null, save one beside a length of 0: that one is not looked at,

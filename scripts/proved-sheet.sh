@@ -10,7 +10,7 @@ if [ -n "${SHEET:-}" ]; then
         exit 2
     fi
 else
-    built bin/sheet "SHEET name this program" check sheet
+    built bin/sheet "SHEET name this program" sheet run sheet
     SHEET=$top/target/bin/sheet
 fi
 export SHEET

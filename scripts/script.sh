@@ -1,7 +1,8 @@
 # What the scripts share. To be sourced with `top` set to the repository's root and before any
 # cd, so that a relative path is taken from the folder in which the script was called.
 
-# The static libraries, each by the name of its crate.
+# The static libraries, each by the name of the crate whose functions it has; the crate NAME_c
+# exports them.
 LIBRARIES="lfj lfj_dispatch"
 
 # show_help: prints the comment at the head of the script that was called
@@ -78,45 +79,48 @@ absolute() {
     esac
 }
 
-# prover WORD..: runs `rt WORD..`, whose words go to target/rt.log and are shown only if it fails
+# prover CRATE COMMAND: runs `rt COMMAND` in the crate's folder, on the crate's own input if it has
+# one; what it says goes to target/rt.log and is shown only if it fails
 prover() {
     log=$top/target/rt.log
-    echo "rt $*: proves what is not proved yet (everything takes some minutes); its words go to target/rt.log" >&2
-    if ! (cd "$top" && rt "$@") >"$log" 2>&1; then
-        grep -v -e '^library ' -e '^logic=proved ' -e '^rt: [a-z_]* proved ' "$log" | tail -n 40 >&2
-        echo "rt $* failed; all that it said stands in target/rt.log." >&2
+    input=$top/crates/$1/stdin
+    [ -f "$input" ] || input=/dev/null
+    echo "rt $2 in crates/$1: proves what is not proved yet (everything takes some minutes); its words go to target/rt.log" >&2
+    if ! (cd "$top/crates/$1" && rt "$2" <"$input") >"$log" 2>&1; then
+        grep -v -e ': proved$' -e '^checked ' -e '^statements ' -e '^library ' -e '^crate ' -e '^logic' "$log" |
+            tail -n 40 >&2
+        echo "rt $2 in crates/$1 failed; all that it said stands in target/rt.log." >&2
         exit 1
     fi
 }
 
 # fresh FILE: is FILE there, made by the kit on the path, and newer than all of the crates? The
-# kit's version stands in FILE.kit, which is as old as the start of the run that made FILE.
+# kit's version stands in FILE.kit, which is as old as the start of the run that made FILE. What rt
+# itself keeps in a crate's out/ says nothing of the crate.
 fresh() {
     [ -f "$1" ] && [ -f "$1.kit" ] && [ "$(cat "$1.kit")" = "$(rt version)" ] &&
-        [ -z "$(find "$top/crates" "$top/crates.txt" -newer "$1.kit" | head -n 1)" ]
+        [ -z "$(find "$top/crates.txt" "$top"/crates/*/* -name out -prune -o -newer "$1.kit" -print | head -n 1)" ]
 }
 
-# built FILE OTHERWISE WORD..: makes target/FILE by `rt WORD..`, if it is not fresh. OTHERWISE
-# says which environment variable can name what.
+# built FILE OTHERWISE CRATE COMMAND OUTPUT: makes target/FILE, if it is not fresh, by `rt COMMAND`
+# in the crate's folder, which writes out/OUTPUT there. OTHERWISE says which environment variable
+# can name what.
 built() {
     file=$top/target/$1
-    name=$1
-    otherwise=$2
-    shift 2
     if ! command -v rt >/dev/null; then
-        echo "The Rattle kit's rt is not on the path: it proves and builds target/$name." >&2
-        echo "Or let the environment variable $otherwise." >&2
+        echo "The Rattle kit's rt is not on the path: it proves and builds target/$1." >&2
+        echo "Or let the environment variable $2." >&2
         exit 2
     fi
     if fresh "$file"; then
-        echo "target/$name is reused: it is newer than the crates and made by the same kit" >&2
+        echo "target/$1 is reused: it is newer than the crates and made by the same kit" >&2
         return
     fi
     mkdir -p "${file%/*}"
     rt version >"$file.kit.new"
-    prover "$@"
-    if [ ! -f "$file" ]; then
-        echo "rt $* did not write target/$name; what it said stands in target/rt.log." >&2
+    prover "$3" "$4"
+    if ! cp "$top/crates/$3/out/$5" "$file"; then
+        echo "rt $4 did not write crates/$3/out/$5; what it said stands in target/rt.log." >&2
         exit 1
     fi
     mv "$file.kit.new" "$file.kit"

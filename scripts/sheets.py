@@ -3,7 +3,7 @@
 
     scripts/sheets.py [SIZE..]        pieces of SIZE bytes; 1, 7, 1000 and 65536 if not given
 
-The program is target/bin/sheet, which `rt check sheet` builds; the environment variable SHEET names another. A piece is written when the
+The program is target/bin/sheet, which `sh scripts/proved-sheet.sh` builds; the environment variable SHEET names another. A piece is written when the
 program has read the one before. What the program prints must be the kit's answer, byte for byte, its status 0, and what it leaves unread
 as many bytes as the kit's questions `unread` say.
 """
@@ -48,7 +48,7 @@ def fed(program, record, size):
 def main():
     program = os.environ.get("SHEET", os.path.join(root, "target/bin/sheet"))
     if not os.access(program, os.X_OK):
-        fail(f"{program} is not a program that can be run; `rt check sheet` builds it")
+        fail(f"{program} is not a program that can be run; `sh scripts/proved-sheet.sh` builds it")
     if not all(word.isdecimal() and int(word) for word in sys.argv[1:]):
         print(__doc__, file=sys.stderr)
         sys.exit(2)

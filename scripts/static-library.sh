@@ -15,7 +15,8 @@ if [ -n "${LFJ_LIB_DIR:-}" ]; then
 else
     for library in $LIBRARIES; do
         built "staticlib/lib$library.a" \
-            "LFJ_LIB_DIR name a folder that has liblfj.a and liblfj_dispatch.a" staticlib "$library"
+            "LFJ_LIB_DIR name a folder that has liblfj.a and liblfj_dispatch.a" \
+            "${library}_c" lib "lib${library}_c.a"
     done
     LFJ_LIB_DIR=$top/target/staticlib
 fi

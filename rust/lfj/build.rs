@@ -1,11 +1,11 @@
 //! Links the static libraries: `liblfj.a`, and the dispatcher's `liblfj_dispatch.a`. Their folder:
 //! the environment variable LFJ_LIB_DIR, an absolute path, else `target/staticlib` of the
-//! repository, where `rt staticlib lfj` and `rt staticlib lfj_dispatch` put them.
+//! repository, where `sh scripts/static-library.sh` puts them.
 
 use std::env;
 use std::path::PathBuf;
 
-/// The libraries' names; each has a crate of the same name.
+/// The libraries' names; each has the exported functions of the crate NAME_c.
 const LIBRARIES: [&str; 2] = ["lfj", "lfj_dispatch"];
 
 /// Ends the build with these lines.
@@ -43,7 +43,7 @@ fn main() {
         if !library.is_file() {
             fail(&[
                 format!("{} is not there.", library.display()),
-                format!("Make it with `rt staticlib {name}` in the repository's root, or let the"),
+                "Make it with `sh scripts/static-library.sh` in the repository's root, or let the".into(),
                 "environment variable LFJ_LIB_DIR name the folder that has liblfj.a and".into(),
                 "liblfj_dispatch.a.".to_string(),
             ]);
