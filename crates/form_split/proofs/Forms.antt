@@ -103,7 +103,7 @@ module _ (after prior : List ℕ) where
                 is_group R m low (form_of w after set) (form_of_lem o) other.0 (other.1, λ h. clash h other.2)
 
   -- One step: of the members that are left, those of the goals `rest` of a set, the first is the form of the component c.
-  module _ (w : ℕ) {k : Bool} {set rest c x : ℕ} (l : set < 2 ^ w) (part : Part rest set) (o : Ordered after prior set) (h : Has rest x)
+  module _ (w : ℕ) {k : Bool} {set x : ℕ} (rest c : ℕ) (l : set < 2 ^ w) (part : Part rest set) (o : Ordered after prior set) (h : Has rest x)
       (m : Component R k (Has rest) x (Has c)) where
     rest-ordered : Ordered after prior rest
     rest-ordered = ordered_part part x h o

@@ -107,7 +107,7 @@ module _ (w : ℕ) (after prior : List ℕ) (k nested : Bool) (set : ℕ) where
       unfolding form_text only
       turn = go st.todo
         where
-          member : {ms : Members} → st.left ≡ run k ms ++ only nested 41 → Taken after prior w l st.part o h m ms → Turn
+          member : {ms : Members} → st.left ≡ run k ms ++ only nested 41 → Taken after prior w rest c l st.part o h m ms → Turn
           member e (last {b = b} n f z) =
               record {
                 after_it = only nested 41;
@@ -116,7 +116,7 @@ module _ (w : ℕ) (after prior : List ℕ) (k nested : Bool) (set : ℕ) where
                     ∙ ap (λ (t : List ℕ). t ++ only nested 41) (sym (append-nil (inner (form_of w after c))))
                     ∙ sym (ap (λ (t : Bool). inner (form_of w after c) ++ only (not t) (mark k) ++ only nested 41) (eq-eqb (without rest c) 0 z));
                 todo = inl (z, refl);
-                fewer = λ a ms j. member_less after prior w l st.part o h m a ms j n f;
+                fewer = λ a ms j. member_less after prior w rest c l st.part o h m a ms j n f;
               }
           member e (next {b = b} {bs = bs} n f v) =
               record {
@@ -126,12 +126,12 @@ module _ (w : ℕ) (after prior : List ℕ) (k nested : Bool) (set : ℕ) where
                     ∙ sym
                     (ap (λ (t : Bool). inner (form_of w after c) ++ only (not t) (mark k) ++ (run k bs ++ only nested 41)) (ne_eqb (without rest c) 0 (some_left bs v)));
                 todo = inr (bs, v, refl);
-                fewer = λ a ms j. member_less after prior w l st.part o h m a ms j n f;
+                fewer = λ a ms j. member_less after prior w rest c l st.part o h m a ms j n f;
               }
 
           go : Todo (ahead after) k nested rest st.left → Turn
           go (inl q) = clash h (ap (λ (z : ℕ). has_goal z x) q.0 ∙ goal-none x)
-          go (inr q) = member q.2 (take after prior w l st.part o h m s q.0 q.1)
+          go (inr q) = member q.2 (take after prior w rest c l st.part o h m s q.0 q.1)
 
       -- there is room for it
       pub turn_room : (t : Turn) → at + length (form_text w true after c) ≤ from + length (body w after set nested)
@@ -149,7 +149,7 @@ module _ (w : ℕ) (after prior : List ℕ) (k nested : Bool) (set : ℕ) where
           → Going w after k nested set from old (without rest c) q n₂
       go_on t u v =
           record {
-            part = rest_part after prior w l st.part o h m;
+            part = rest_part after prior w rest c l st.part o h m;
             left = t.after_it;
             todo = t.todo;
             wrote = onward st.wrote (then u v) t.split;
@@ -172,9 +172,9 @@ step w after prior k nested set {from = from} {old = old} {rest = rest} l lr o a
     let s' = starts-ahead after prior (ordered_part after prior st.part x h o) h s in
     let t = turn w after prior k nested set st l o c x h m s' in
     record {
-      ordered = c_ordered after prior w l st.part o h m;
+      ordered = c_ordered after prior w rest c l st.part o h m;
       fewer = t.fewer a ms e;
-      less = rest_less after prior w l st.part o h m lr;
+      less = rest_less after prior w rest c l st.part o h m lr;
       room = turn_room w after prior k nested set st l o c x h m s' t;
       on =
           λ {p} {q} {n₁} {n₂} u r z v.
