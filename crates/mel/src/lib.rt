@@ -38,9 +38,9 @@ fn write_clause<'a>(
 ) -> MelAnswer
     requires { (0 < length sets.now) × (length sets.now ≤ goal_limit) }
     ensures result_value { N.outcome result
-        ≡ sizeIn (accepted (X.melText variableLimit head sets.now grounds.now listed.now)) out.old }
+        ≡ size_in (accepted (X.mel_text variable_limit head sets.now grounds.now listed.now)) out.old }
     ensures out_after { out.new
-        ≡ bufferAfter (accepted (X.melText variableLimit head sets.now grounds.now listed.now)) out.old }
+        ≡ buffer_after (accepted (X.mel_text variable_limit head sets.now grounds.now listed.now)) out.old }
 {
     let n = sets.len();
     let b = mel_stages::up_to(sets);
