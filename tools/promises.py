@@ -1,14 +1,15 @@
 #!/usr/bin/env python3
 """Fills the last column of docs/PROMISES.md with what the prover said of each must-fail edit.
 
-    sh .ci/run                  tries every edit; the logs stand in target/must-fail/CRATE/LABEL/.log
+    sh .ci/run                  tries every edit; what it says stands in target/ci.log
     tools/promises.py           from the repository's root: writes the column anew
     tools/promises.py --check   writes nothing; exit status 1 if the column is out of date
 
-Both name an edit that has no row, a row that has no edit, a log that is missing, and an edit whose first error is not a fact of a
-promise: a callee's precondition or that a number fits its type (of a program, which has no promise, nothing else can be refused), a
-proof file that only no longer fits the code, or a goal at which the prover gave up. A row is `| wrong version | `CRATE/LABEL` | .. |`.
-The column has the function or the law, the fact of it that is not met, and where the two sides differ, if that is short.
+Both name an edit that has no row, a row that has no edit, an edit that the log does not have or that was not refused, and an edit whose
+first error is not a fact of a promise: a callee's precondition or that a number fits its type (of a program, which has no promise,
+nothing else can be refused), a proof file that only no longer fits the code, or a goal at which the prover gave up. A row is
+`| wrong version | `CRATE/LABEL` | .. |`. The column has the function or the law, the fact of it that is not met, and where the two
+sides differ, if that is short and the log's line has it.
 """
 import pathlib
 import re
@@ -16,36 +17,27 @@ import sys
 from kit_cases import about
 
 TABLE = pathlib.Path("docs/PROMISES.md")
+LOG = pathlib.Path("target/ci.log")
 ROW = re.compile(r"^\| (.*) \| `(\w+/\w+)` \|(?: (.*))? \|$")
-ERROR = re.compile(r"^\S*?/must-fail/\w+/\w+/(\S+?):\d+:\d+: error: (.*)$")
-# an error that only follows from another one
-FOLLOWS = ("was not admitted",)
-UNFIT = "can be named from here"
-# the prover could not tell
-GAVE_UP = "stopped at a bound of its own"
+# what rt says of an edit, on one line: refused or not, and the first error
+TOLD = re.compile(r"^(?:rt: )?must-fail (\w+/\w+)\.edit: ([\w ,]*)(.*)$")
+REFUSED = "refused, as it must be"
+ERROR = re.compile(r": (?:note: )?(?:\./)?((?:src|proofs|specs)/\S+?):(\d+):\d+: (?:error(?:\[[\w-]+\])?: )?(.*)$")
+# the proof file alone no longer fits; the prover could not tell
+UNFIT = "names what the edit took away"
+GAVE_UP = "only by a limit of the prover"
 # a fact that the code itself asks for, as that a number fits its type
-ASKED = re.compile(r"(add|sub|mul|cast|shl|shr|index)-")
-
-
-def blocks(log):
-    """The errors of a log, each with the lines that belong to it."""
-    found = []
-    for line in log.split("\n"):
-        m = ERROR.match(line)
-        if m:
-            found.append([m.group(1), m.group(2)])
-        elif found and "proved" not in line:
-            found[-1][1] += "\n" + line
-    return [b for b in found if not any(w in b[1].split("\n")[0] for w in FOLLOWS)]
+ASKED = re.compile(r"(overflow_|nonzero_|bounds-|slice_bounds-|offset_bounds-)")
+# the name of a goal at the end of what is not proved
+GOAL = re.compile(r"it is not proved that (.*?\(`([^`]*)`\))")
 
 
 # terms of the prover's own that tell a reader nothing
-INNER = re.compile(r"mathlib\.|Rattle·|reads\.|borrow\.|lts\.|denote\.|_≡_|bytes\]…")
+INNER = re.compile(r"mathlib\.|Rattle[·.]|reads\.|borrow\.|lts\.|denote\.|_≡_|◌|…")
 
 
 def short(text, most=70):
-    text = re.sub(r"(\w?)( \.before)+ ", r"\1 … ", " ".join(text.split())).strip()
-    text = text.replace("Prim.Native.Nat.", "").replace("lib.Dec.", "").replace("lib.Count.", "")
+    text = " ".join(text.split()).replace("Prim.Native.Nat.", "").replace("lib.Dec.", "").replace("lib.Count.", "")
     return "" if len(text) > most or INNER.search(text) else text
 
 
@@ -64,8 +56,20 @@ def difference(message):
     return "the two sides differ"
 
 
-def place(path):
-    m = re.match(r"proofs/(\S+)/Proof\.antt$", path)
+def function(crate, path, line):
+    """The function of the crate's source that the line is in."""
+    lines = pathlib.Path("crates", crate, path).read_text(encoding="utf-8").split("\n")
+    for text in reversed(lines[:line]):
+        m = re.search(r"\bfn (\w+)", text)
+        if m:
+            return m.group(1)
+    return path
+
+
+def place(crate, path, line):
+    if path.startswith("src/"):
+        return f"`{function(crate, path, line)}`"
+    m = re.match(r"proofs/(\S+)/(?:Answers|Invariants|Proof)\.antt$", path)
     if m:
         return f"`{m.group(1).lstrip('+')}`"
     m = re.match(r"(?:proofs|specs)/(\S+)\.antt$", path)
@@ -76,34 +80,43 @@ def program(edit):
     return pathlib.Path("crates", edit.split("/")[0], "src/main.rt").is_file()
 
 
-def said(edit, complaints):
-    log = pathlib.Path("target/must-fail") / edit / ".log"
-    if not log.is_file():
-        complaints.append(f"{edit}: no log in {log.parent}; run the gate first")
+def told():
+    """What the log says of each edit: the outcome and the rest of the line."""
+    if not LOG.is_file():
+        return {}
+    lines = LOG.read_text(encoding="utf-8", errors="replace").split("\n")
+    return {m.group(1): (m.group(2), m.group(3)) for m in map(TOLD.match, lines) if m}
+
+
+def said(edit, log, complaints):
+    if edit not in log:
+        complaints.append(f"{edit}: {LOG} says nothing of it; run the gate first")
         return None
-    found = blocks(log.read_text(encoding="utf-8", errors="replace"))
-    if not found:
-        text = log.read_text(encoding="utf-8", errors="replace") + "\n"
-        m = re.search(r"it is not proved that what (.*?)\n", text)
-        if m:
-            if " requires " in m.group(1) and not program(edit):
-                complaints.append(f"{edit}: a callee's precondition comes first")
-            of = re.search(r"fn \w+::(\S+): no proof", text)
-            return (f"`{of.group(1)}`: " if of else "") + "what " + m.group(1).strip()
-        complaints.append(f"{edit}: its log names no error")
+    outcome, rest = log[edit]
+    if not outcome.startswith(REFUSED):
+        complaints.append(f"{edit}: {outcome}{rest}")
         return None
-    path, message = found[0]
-    m = re.match(r"`([^`]+)`: (.*)", message, re.S)
-    fact, rest = (m.group(1), m.group(2)) if m else ("", message)
-    if UNFIT in message:
+    m = ERROR.search(rest)
+    if not m:
+        complaints.append(f"{edit}: its line names no error")
+        return None
+    crate = edit.split("/")[0]
+    path, line, message = m.group(1), int(m.group(2)), m.group(3)
+    goal = GOAL.search(message)
+    fact = re.match(r"`([^`]+)`: (.*)", message)
+    fact, message = (goal.group(2), message) if goal else (fact.group(1), fact.group(2)) if fact else ("", message)
+    if UNFIT in rest:
         complaints.append(f"{edit}: the proof only no longer fits the code ({path})")
-    elif GAVE_UP in message:
+    elif GAVE_UP in rest:
         complaints.append(f"{edit}: the prover gave up ({path}, {fact})")
     elif ASKED.match(fact) and not program(edit):
         complaints.append(f"{edit}: a fact that the code asks for comes first ({path}, {fact})")
-    elif re.search(r"requires(-\d+)?$", fact) and not program(edit):
+    elif re.search(r"requires(-\d+|-clause-\w+|-(then|else|in)-\S+)?$", fact) and not program(edit):
         complaints.append(f"{edit}: a callee's precondition comes first ({path}, {fact})")
-    return f"{place(path)}, `{fact}`: {difference(rest)}" if fact else f"{place(path)}: {difference(rest)}"
+    where = place(crate, path, line)
+    if goal:
+        return f"{where}: {goal.group(1)}"
+    return f"{where}, `{fact}`: {difference(message)}" if fact else f"{where}: {difference(message)}"
 
 
 def main():
@@ -113,7 +126,7 @@ def main():
     if not TABLE.is_file():
         print(f"{TABLE} is not here: run this from the repository's root", file=sys.stderr)
         sys.exit(2)
-    complaints, rows, seen = [], [], set()
+    log, complaints, rows, seen = told(), [], [], set()
     for line in TABLE.read_text(encoding="utf-8").split("\n"):
         m = ROW.match(line)
         if m and m.group(2) != "CRATE/LABEL":
@@ -123,7 +136,7 @@ def main():
             if not pathlib.Path(f"crates/{crate}/must-fail/{label}.edit").is_file():
                 complaints.append(f"{edit}: a row without an edit")
             else:
-                line = f"| {m.group(1)} | `{edit}` | {said(edit, complaints) or m.group(3) or ''} |"
+                line = f"| {m.group(1)} | `{edit}` | {said(edit, log, complaints) or m.group(3) or ''} |"
         rows.append(line)
     for path in sorted(pathlib.Path("crates").glob("*/must-fail/*.edit")):
         edit = f"{path.parts[1]}/{path.stem}"
