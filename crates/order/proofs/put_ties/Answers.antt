@@ -1,6 +1,6 @@
 use native.Mathlib.Omega.{arith}
 use mathlib.Core.Path.{◌≡◌, ap, ◌∙◌}
-use Prim.Native.Nat.{ℕ, ◌-◌}
+use Prim.Native.Nat.{ℕ}
 use Rattle.logic.specs.Table.{table}
 use Rattle.logic.proofs.Table.{table-zero, table_more}
 use Rattle.independence.specs.Halves.{halves}

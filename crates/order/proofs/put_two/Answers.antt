@@ -20,10 +20,10 @@ loop-i-preserved c =
     let two : a.j + 2 - 1 ≡ a.j + 1 = omega arith in (
       omega arith,
       putting_more 32 _ _ l.i l.rows c.with.result (omega arith) l.invariant.1
-          (with_halves 32 _ _ a.next (a.j + 1) c.with.result _ _ _ c.with.ensures c.waits-in-loop-i.ensures
+          (with_halves 32 _ _ a.next (a.j + 1) c.with-row.result _ _ _ c.with.ensures c.waits-in-loop-i.ensures
           c.of-y.ensures (c.single-two.ensures ∙ ap single two)
           ∙ two-earlier 32 a.rows.now ties a.later a.next a.j l.i (omega arith) (omega arith) row _ (l.invariant.1.left l.i (omega arith))
-          (with_halves 32 _ _ a.later a.j row _ _ _ c.with.ensures c.waits.ensures c.of-x.ensures
+          (with_halves 32 _ _ a.later a.j row _ _ _ c.with-row.ensures c.waits.ensures c.of-x.ensures
           (c.single-one.ensures ∙ ap single one))),
     )
 
