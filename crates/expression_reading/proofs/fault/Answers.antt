@@ -1,5 +1,5 @@
 use mathlib.Core.Path.{sym, ap, ◌∙◌, subst}
-use Prim.Native.Nat.{◌+◌, ◌-◌}
+use Prim.Native.Nat.{◌+◌}
 use native.Mathlib.Omega.{arith}
 use Rattle.sets.specs.Sets.{has, union, single}
 use Rattle.expression_reading.proofs.Scans.{Scanned, scanned_start, scanned_above, scanned_met, scanned_more, scanned_skip, scanned_end}

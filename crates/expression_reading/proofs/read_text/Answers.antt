@@ -17,21 +17,21 @@ pub parse-part-requires : goal.parse-part-requires
 parse-part-requires c = words_zero 32
 
 pub fault_of-spot-requires : goal.fault_of-spot-requires
-fault_of-spot-requires c = (c.requires, counted c.args.n c.args.text.now (omega (arith, c.if-len-lt1.false)) c.if-len-gt-LONGEST.false _ _ c.parse-part.ensures _ c.part-in-Read-1.given.1)
+fault_of-spot-requires c = (c.requires, counted c.args.n c.args.text.now (omega (arith, c.if-len-lt1.false)) c.if-len-gt-LONGEST.false _ _ c.parse-part.ensures _ c.in-Read.is)
 
 pub transpose-requires : goal.transpose-requires
-transpose-requires c = (search rules, text-within c.args.n c.args.text.now (omega (arith, c.if-len-lt1.false)) c.if-len-gt-LONGEST.false _ _ c.parse-part.ensures _ c.part-in-Read-1.given.1 c.requires _ c.fault_of-spot.ensures c.enum_told-1.given.1 (search rules))
+transpose-requires c = (search rules, text-within c.args.n c.args.text.now (omega (arith, c.if-len-lt1.false)) c.if-len-gt-LONGEST.false _ _ c.parse-part.ensures _ c.in-Read.is c.requires _ c.fault_of-spot.ensures c.in-Nowhere.is (search rules))
 
 pub returns-in-Bad : goal.returns-in-Bad
-returns-in-Bad c = c.refused-in-Bad.ensures ∙ ap (λ z. text_answer c.args.n z) (text_bad c.args.n c.args.text.now (omega (arith, c.if-len-lt1.false)) c.if-len-gt-LONGEST.false _ _ c.parse-part.ensures _ c.part-1.given.1)
+returns-in-Bad c = c.refused-in-Bad.ensures ∙ ap (λ z. text_answer c.args.n z) (text_bad c.args.n c.args.text.now (omega (arith, c.if-len-lt1.false)) c.if-len-gt-LONGEST.false _ _ c.parse-part.ensures _ c.in-Bad.is)
 
 pub returns-in-At : goal.returns-in-At
-returns-in-At c = c.refused-in-At.ensures ∙ ap (λ z. text_answer c.args.n z) (text-fault c.args.n c.args.text.now (omega (arith, c.if-len-lt1.false)) c.if-len-gt-LONGEST.false _ _ c.parse-part.ensures _ c.part-in-Read-1.given.1 _ _ c.fault_of-spot.ensures c.spot-1.given.1)
+returns-in-At c = c.refused-in-At.ensures ∙ ap (λ z. text_answer c.args.n z) (text-fault c.args.n c.args.text.now (omega (arith, c.if-len-lt1.false)) c.if-len-gt-LONGEST.false _ _ c.parse-part.ensures _ c.in-Read.is _ _ c.fault_of-spot.ensures c.in-At.is)
 
 pub returns-then-subset32 : goal.returns-then-subset32
 returns-then-subset32 c =
     rw c.empty-graph.ensures
-    (text_done c.args.n c.args.text.now (omega (arith, c.if-len-lt1.false)) c.if-len-gt-LONGEST.false _ _ c.parse-part.ensures _ c.part-in-Read-1.given.1 c.requires _ c.fault_of-spot.ensures c.enum_told-1.given.1 (search rules) (ap (λ z. subset z c.part-in-Read-1.given.0.0.set) (sym c.below32.ensures) ∙ sym c.subset32.ensures ∙ c.if-subset32.true) _ c.transpose.ensures)
+    (text_done c.args.n c.args.text.now (omega (arith, c.if-len-lt1.false)) c.if-len-gt-LONGEST.false _ _ c.parse-part.ensures _ c.in-Read.is c.requires _ c.fault_of-spot.ensures c.in-Nowhere.is (search rules) (ap (λ z. subset z c.in-Read.node.set) (sym c.below32.ensures) ∙ sym c.subset32.ensures ∙ c.if-subset32.true) _ c.transpose.ensures)
 
 pub returns-else-subset32 : goal.returns-else-subset32
-returns-else-subset32 c = c.refused-else-subset32.ensures ∙ ap (λ z. text_answer c.args.n z) (text_lacks c.args.n c.args.text.now (omega (arith, c.if-len-lt1.false)) c.if-len-gt-LONGEST.false _ _ c.parse-part.ensures _ c.part-in-Read-1.given.1 c.requires _ c.fault_of-spot.ensures c.enum_told-1.given.1 (ap (λ z. subset z c.part-in-Read-1.given.0.0.set) (sym c.below32.ensures) ∙ sym c.subset32.ensures ∙ c.if-subset32.false))
+returns-else-subset32 c = c.refused-else-subset32.ensures ∙ ap (λ z. text_answer c.args.n z) (text_lacks c.args.n c.args.text.now (omega (arith, c.if-len-lt1.false)) c.if-len-gt-LONGEST.false _ _ c.parse-part.ensures _ c.in-Read.is c.requires _ c.fault_of-spot.ensures c.in-Nowhere.is (ap (λ z. subset z c.in-Read.node.set) (sym c.below32.ensures) ∙ sym c.subset32.ensures ∙ c.if-subset32.false))
