@@ -1,11 +1,11 @@
 use mathlib.Core.Path.{◌≡◌, sym, ap, ◌∙◌}
-use mathlib.Core.Logic.{⊎_elim}
 use native.Mathlib.Omega.{arith}
 use Prim.Native.Nat.{◌+◌, ◌-◌}
 use borrow.Author.Rules.{rules}
 use Rattle.sets.specs.Sets.{union, single, first}
 use Rattle.order_compare.proofs.Rows.{marks_start, marks_more, compare_end, compare_row, compare_place, compare_hit}
 use Rattle.order_compare.proofs.compare.Goals as goal
+use Rattle.order_compare.proofs.compare.Goals.{then-odd-ne0, else-odd-ne0}
 
 pub loop-k-init : goal.loop-k-init
 loop-k-init c = (omega arith, marks_start c.args.n c.args.a.now c.args.b.now)
@@ -16,8 +16,7 @@ loop-k-preserved c =
     let here : l.k + 1 - 1 ≡ l.k = omega arith in
     let more = marks_more c.args.n c.args.a.now c.args.b.now _ c.below32-goals.ensures l.uneven l.k l.invariant.1 in (
       search rules,
-      ⊎_elim (λ w. w.2 ∙ ap (λ z. union l.uneven z) (w.1.ensures ∙ ap single here) ∙ more.0 (λ z. w.0.taken (c.odd.ensures ∙ z)))
-          (λ w. w.1 ∙ more.1 (sym c.odd.ensures ∙ w.0.left)) c.if-odd-ne0.branch,
+      elim c.if-odd-ne0.branch [ then-odd-ne0 w ↦ w.uneven-is ∙ ap (λ z. union l.uneven z) (w.single-uneven.ensures ∙ ap single here) ∙ more.0 (λ z. w.if-odd-ne0.true (c.odd.ensures ∙ z)) | else-odd-ne0 w ↦ w.uneven-is ∙ more.1 (sym c.odd.ensures ∙ w.if-odd-ne0.false) ],
     )
 
 pub returns-then-uneven-eq0 : goal.returns-then-uneven-eq0
