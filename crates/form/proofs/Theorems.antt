@@ -14,7 +14,7 @@ use mathlib.Core.Option.{Option, none, some}
 use Prim.Native.Nat.{ℕ, ◌≤◌}
 use native.Mathlib.Omega.{arith}
 use lib.Dec.{eqb}
-use lib.ListN.{length, drop, replicate, length-replicate, drop_of_length-le}
+use lib.ListN.{length, replicate, length-replicate, drop_of_length-le}
 use borrow.Author.Tests.{eqb-true}
 use Rattle.logic.proofs.Bools.{iff, is_false, or_elim, cond_le}
 use Rattle.buffer.specs.Lent.{fits}

@@ -49,10 +49,10 @@ fn copy(text: &[u8], out: &mut [u8]) -> FormAnswer
 fn put_rows(rows: &[u32; Graph::MAX], n: usize, space: &mut [u8]) -> FormAnswer
     requires { (1 ≤ n) × (n ≤ goal_limit) × Strict (ahead rows.now) (Goals n) × Within goal_limit n rows.now × (T.form_limit ≤ length space.old) }
     ensures result_value { F.outcome result
-        ≡ sizeIn (F.orThirteen (firstN (ahead rows.now) n) (T.text (formAny (ahead rows.now) n))) space.old }
+        ≡ size_in (F.or_thirteen (first_n (ahead rows.now) n) (T.text (form_any (ahead rows.now) n))) space.old }
     ensures result_value_2 { F.goals result ≡ first_n (ahead rows.now) n }
     ensures space_after { space.new
-        ≡ bufferAfter (F.orThirteen (firstN (ahead rows.now) n) (T.text (formAny (ahead rows.now) n))) space.old }
+        ≡ buffer_after (F.or_thirteen (first_n (ahead rows.now) n) (T.text (form_any (ahead rows.now) n))) space.old }
 {
     let mut prior = *rows;
     graph_transpose::transpose(&mut prior, n);

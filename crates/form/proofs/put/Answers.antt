@@ -9,34 +9,42 @@ use Rattle.form.proofs.Orders.{graph_asks, graph_text, graph_shown}
 use Rattle.record_rules.proofs.Outcomes.{same_answer, same_buffer}
 use Rattle.form.proofs.Outcomes.{form-refused, shown-refused}
 use Rattle.form.proofs.put.Goals as goal
+use Rattle.form.proofs.put.Goals.{In-Fine}
 
--- the record was read, and its order found
-fine : (c : goal.In-Fine) → reading c.args.b.now ≡ Fine
-fine c = sym c.read-s.ensures ∙ c.enum_told-1.given.1
-
-found : (c : goal.After-order_of-g) → c.order_of-g.result ≡ order c.args.b.now
-found c =
-    clause-order _ (fine_well_formed _ (fine c.before.before.before.before.before)) _ c.decode-c.ensures c.order_of-g.ensures
+-- the record was read
+fine : (c : In-Fine) → reading c.args.b.now ≡ Fine
+fine c = sym c.read-s.ensures ∙ c.in-Fine.is
 
 pub decode-c-requires : goal.decode-c-requires
-decode-c-requires c = fine_well_formed _ (fine c)
+decode-c-requires c = fine_well_formed _ (fine (goal.at.decode-c-requires c).In-Fine)
 
 pub order_of-g-requires : goal.order_of-g-requires
-order_of-g-requires c = clause-few _ (fine_well_formed _ (fine c.before.before.before.before)) _ c.decode-c.ensures
+order_of-g-requires c = clause-few _ (fine_well_formed _ (fine (goal.at.order_of-g-requires c).In-Fine)) _ c.decode-c.ensures
 
 pub put_rows-requires : goal.put_rows-requires
 put_rows-requires c =
-    let (n, m, s, w) = graph_asks _ (fine c.before.before.before.before.before.before.before) _ (found c.before.before) in
+    let f = fine (goal.at.put_rows-requires c).In-Fine in
+    let g : c.order_of-g.result ≡ order c.args.b.now = clause-order _ (fine_well_formed _ f) _ c.decode-c.ensures c.order_of-g.ensures in
+    let (n, m, s, w) = graph_asks _ f _ g in
     (n, m, s, w, c.requires)
 
 pub returns-in-Refused : goal.returns-in-Refused
 returns-in-Refused c =
-    let e = sym c.read-s.ensures ∙ c.s-1.given.1 in
-    (sym (same_answer _ (form-refused _ _ e)), (sym (shown-refused _ _ e), sym (same_buffer _ (form-refused _ _ e))))
+    let e = sym c.read-s.ensures ∙ c.in-Refused.is in
+    record {
+      result_value = sym (same_answer _ (form-refused _ _ e));
+      result_value_2 = sym (shown-refused _ _ e);
+      space_after = sym (same_buffer _ (form-refused _ _ e));
+    }
 
 pub returns-in-Fine : goal.returns-in-Fine
 returns-in-Fine c =
-    let f = fine c in
+    let f = fine (goal.at.returns-in-Fine c).In-Fine in
+    let g : c.order_of-g.result ≡ order c.args.b.now = clause-order _ (fine_well_formed _ f) _ c.decode-c.ensures c.order_of-g.ensures in
     let r = c.put_rows.ensures in
-    let e = graph_text _ f _ (found c.before.before.before.before.before) in
-    (r.0 ∙ same_answer _ e, (r.1.0 ∙ graph_shown _ f _ (found c.before.before.before.before.before), r.1.1 ∙ same_buffer _ e))
+    let e = graph_text _ f _ g in
+    record {
+      result_value = r.result_value ∙ same_answer _ e;
+      result_value_2 = r.result_value_2 ∙ graph_shown _ f _ g;
+      space_after = r.space_after ∙ same_buffer _ e;
+    }
