@@ -129,10 +129,13 @@ def main():
 
 
 def source(body, cut, turned):
-    """Ghost imports, clauses and comments of a source file; code keeps its names."""
+    """Ghost imports, clauses (to their closing brace) and comments of a source file; code keeps its names."""
     out = []
+    depth = 0
     for line in body.splitlines(keepends=True):
-        if re.match(r"\s*(//|ghost |requires|ensures)", line):
+        if depth > 0 or re.match(r"\s*(//|ghost |requires|ensures)", line):
+            if not line.lstrip().startswith("//"):
+                depth += line.count("{") - line.count("}")
             line = cut.sub(lambda m: turned.get(m.group(1), m.group(1)), line)
         out.append(line)
     return "".join(out)
