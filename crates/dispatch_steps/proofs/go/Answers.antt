@@ -5,4 +5,4 @@ use Rattle.dispatch_steps.specs.Steps.{work_of}
 use Rattle.dispatch_steps.proofs.go.Goals as goal
 
 pub returns : goal.returns
-returns c = c.act.ensures ∙ ap (λ (s : Stepped). work_of goal_limit s.head s.board) c.act.ensures
+returns c = c.act.ensures ∙ ap (λ (s : Stepped). work_of goal_limit s.head s.board) c.act-first.ensures
