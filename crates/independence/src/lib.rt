@@ -32,7 +32,7 @@ fn apart(set: u64, grounded: u64, free: u64, listed: &[u64; sets::VARIABLES]) ->
     common(sets::without(set, loose), listed)
 }
 
-// The variables each of which makes a later goal wait for the goal of this variable set: made once for all later goals. `ground` has the variables known ground
+// The variables each of which makes a later goal wait for the goal of this variable set: made once for all later goals. `grounded` has the variables known ground
 // at this goal, `free` those known independent of every other.
 pub fn ties(set: u64, grounded: u64, free: u64, listed: &[u64; sets::VARIABLES]) -> u64
     ensures { result ≡ T.ties_of grounded free listed.now S.variable_limit set }

@@ -9,14 +9,14 @@ use borrow.Author.Tests.{eqb-true}
 use Rattle.expression.specs.Expr.{NoN}
 use Rattle.expression.specs.Arrange.{Strict}
 use Rattle.logic.proofs.Bools.{test, and-true, not-true, or-true as or_cases}
-use Rattle.published.specs.Sets.{◌isIn◌, Disjoint, Subset, every, subset, inside, disjoint}
+use Rattle.published.specs.Sets.{◌is_in◌, Disjoint, Subset, every, subset, inside, disjoint}
 use Rattle.published.specs.Figure1.{P, S, F, lemma1, lemma3}
 use Rattle.published.proofs.Lists.{every_in, in_every, in_subset, subset_in, subset-false, disjoint_in, disjoint-false}
 use Rattle.published.proofs.Graph.{p_in, f_vertex, f_waits, f_free, s_part, s_f, s_some}
 
 module _ (R : ℕ → ℕ → Bool) (W : List ℕ) where
   -- ---- what the two conditions say
-  pub read_1 : lemma1 R W ≡ true → (a b : List ℕ) → a isIn S R W → b isIn S R W → Disjoint a b ⊎ (Subset a b ⊎ Subset b a)
+  pub read_1 : lemma1 R W ≡ true → (a b : List ℕ) → a is_in S R W → b is_in S R W → Disjoint a b ⊎ (Subset a b ⊎ Subset b a)
   read_1 h a b ma mb =
       ⊎_elim
       (λ t. ⊎_elim (λ u. inl (disjoint_in a b u)) (λ u. inr (inl (subset_in a b u))) (or_cases (disjoint a b) (subset a b) t))
@@ -25,8 +25,8 @@ module _ (R : ℕ → ℕ → Bool) (W : List ℕ) where
       (every_in (λ b. disjoint a b || subset a b || subset b a) (S R W)
       (every_in (λ a. every (λ b. disjoint a b || subset a b || subset b a) (S R W)) (S R W) h a ma) b mb))
 
-  pub read_3 : lemma3 R W ≡ true → (a b : List ℕ) → a isIn S R W → b isIn S R W → Subset a b → subset b a ≡ false
-      → (u v : ℕ) → u isIn F R W a → v isIn F R W b → R u v ≡ true
+  pub read_3 : lemma3 R W ≡ true → (a b : List ℕ) → a is_in S R W → b is_in S R W → Subset a b → subset b a ≡ false
+      → (u v : ℕ) → u is_in F R W a → v is_in F R W b → R u v ≡ true
   read_3 h a b ma mb i j u v mu mv =
       let t = every_in (λ b. not (inside a b) || every (λ u. every (λ v. eqb u v || R u v) (F R W b)) (F R W a)) (S R W)
       (every_in (λ a. every (λ b. not (inside a b) || every (λ u. every (λ v. eqb u v || R u v) (F R W b)) (F R W a)) (S R W)) (S R W) h a ma) b mb in
@@ -45,9 +45,9 @@ module _ (R : ℕ → ℕ → Bool) (W : List ℕ) where
           let p = s_part R W b mb r.0 r.1 in
           true≢false (sym (f_waits R W b v r.0 mv p r.1) ∙ ap (R r.0) (sym e) ∙ f_free R W a u r.0 mu p r.2)
 
-  module _ (o : Strict R (λ i. i isIn W)) where
+  module _ (o : Strict R (λ i. i is_in W)) where
     -- ---- Lemma 2: "For each non-intersecting pair of sets S_i, S_j in S, there are no edges between a vertex in F(S_i) and a vertex in F(S_j)."
-    pub lemma_2_of : (a b : List ℕ) → a isIn S R W → Disjoint a b → (u v : ℕ) → u isIn F R W a → v isIn F R W b → R u v ≡ false
+    pub lemma_2_of : (a b : List ℕ) → a is_in S R W → Disjoint a b → (u v : ℕ) → u is_in F R W a → v is_in F R W b → R u v ≡ false
     lemma_2_of a b ma d u v mu mv =
         let r = s_some R W o a ma in
         let p = s_part R W a ma r.0 r.1 in
@@ -61,9 +61,9 @@ module _ (R : ℕ → ℕ → Bool) (W : List ℕ) where
         (λ h. h)
         (test (R u v))
 
-    module _ (free : NoN R (λ i. i isIn W)) where
+    module _ (free : NoN R (λ i. i is_in W)) where
       -- two vertices of P and two others that would be an N
-      no_four : (a b c d : ℕ) → a isIn P R W → b isIn P R W → c isIn W → d isIn W → R a c ≡ true → R b c ≡ true → R b d ≡ true → R a d ≡ false → R d c ≡ false → ⊥
+      no_four : (a b c d : ℕ) → a is_in P R W → b is_in P R W → c is_in W → d is_in W → R a c ≡ true → R b c ≡ true → R b d ≡ true → R a d ≡ false → R d c ≡ false → ⊥
       no_four a b c d ma mb mc md ac bc bd ad dc =
           let pa = p_in R W a ma in
           let pb = p_in R W b mb in
@@ -84,7 +84,7 @@ module _ (R : ℕ → ℕ → Bool) (W : List ℕ) where
           })
 
       -- ---- Lemma 1: two sets of S that intersect, and neither is a subset of the other, give an N
-      crossing : (a b : List ℕ) → a isIn S R W → b isIn S R W → disjoint a b ≡ false → subset a b ≡ false → subset b a ≡ false → ⊥
+      crossing : (a b : List ℕ) → a is_in S R W → b is_in S R W → disjoint a b ≡ false → subset a b ≡ false → subset b a ≡ false → ⊥
       crossing a b ma mb h i j =
           let both = disjoint-false a b h in
           let left = subset-false a b i in
@@ -114,7 +114,7 @@ module _ (R : ℕ → ℕ → Bool) (W : List ℕ) where
           in_every (λ a. every (λ b. disjoint a b || subset a b || subset b a) (S R W)) (S R W)
           (λ a ma. in_every (λ b. disjoint a b || subset a b || subset b a) (S R W) (λ b mb. go a b ma mb))
         where
-          go : (a b : List ℕ) → a isIn S R W → b isIn S R W → (disjoint a b || subset a b || subset b a) ≡ true
+          go : (a b : List ℕ) → a is_in S R W → b is_in S R W → (disjoint a b || subset a b || subset b a) ≡ true
           go a b ma mb =
               ⊎_elim (λ h. ap (λ z. z || subset a b || subset b a) h)
               (λ h.
@@ -124,7 +124,7 @@ module _ (R : ℕ → ℕ → Bool) (W : List ℕ) where
               (test (disjoint a b))
 
       -- ---- Lemma 3: u of F(S_i) that is not before v of F(S_j), for S_i inside S_j, gives an N
-      inside-before : (a b : List ℕ) → a isIn S R W → b isIn S R W → Subset a b → subset b a ≡ false → (u v : ℕ) → u isIn F R W a → v isIn F R W b → R u v ≡ true
+      inside-before : (a b : List ℕ) → a is_in S R W → b is_in S R W → Subset a b → subset b a ≡ false → (u v : ℕ) → u is_in F R W a → v is_in F R W b → R u v ≡ true
       inside-before a b ma mb i j u v mu mv =
           let r = s_some R W o a ma in
           let p = s_part R W a ma r.0 r.1 in
@@ -144,7 +144,7 @@ module _ (R : ℕ → ℕ → Bool) (W : List ℕ) where
           in_every (λ b. not (inside a b) || every (λ u. every (λ v. eqb u v || R u v) (F R W b)) (F R W a)) (S R W)
           (λ b mb. go a b ma mb))
         where
-          go : (a b : List ℕ) → a isIn S R W → b isIn S R W → (not (inside a b) || every (λ u. every (λ v. eqb u v || R u v) (F R W b)) (F R W a)) ≡ true
+          go : (a b : List ℕ) → a is_in S R W → b is_in S R W → (not (inside a b) || every (λ u. every (λ v. eqb u v || R u v) (F R W b)) (F R W a)) ≡ true
           go a b ma mb =
               ⊎_elim
               (λ h.

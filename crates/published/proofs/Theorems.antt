@@ -19,7 +19,7 @@ use Rattle.expression.proofs.Spec.{fits-once, fits-before}
 use Rattle.expression.proofs.Theorems.{of_in, order_no_n, form_any_lem, has_expression_any, order_strict, form_unique, form_any_is}
 use Rattle.expression.proofs.Search.{not_found, none_found}
 use Rattle.expression.proofs.Restore.{restored}
-use Rattle.published.specs.Sets.{◌isIn◌, Disjoint, Subset, subset}
+use Rattle.published.specs.Sets.{◌is_in◌, Disjoint, Subset, subset}
 use Rattle.published.specs.Figure1.{S, F, figure1}
 use Rattle.published.specs.Linear.{udg_expr}
 use Rattle.published.proofs.Lists.{Pair, subset_in}
@@ -28,19 +28,19 @@ use Rattle.published.proofs.Linear.{Compiled}
 use Rattle.published.proofs.Deep.{linear_compiled, udg_no_n}
 
 -- ---- the vertices 1 to n; `Member` is `∈` at the numbers
-member_in : (l : List ℕ) (i : ℕ) → Member i l → i isIn l
+member_in : (l : List ℕ) (i : ℕ) → Member i l → i is_in l
 member_in [] i m = m
 member_in (x ∷ l) i m = ⊎_elim inl (λ h. inr (member_in l i h)) m
 
-in_member : (l : List ℕ) (i : ℕ) → i isIn l → Member i l
+in_member : (l : List ℕ) (i : ℕ) → i is_in l → Member i l
 in_member [] i m = m
 in_member (x ∷ l) i m = ⊎_elim inl (λ h. inr (in_member l i h)) m
 
 module _ (n : ℕ) where
-  goals_in : (i : ℕ) → i isIn up_from 1 n → Goals n i
+  goals_in : (i : ℕ) → i is_in up_from 1 n → Goals n i
   goals_in i m = let t = member_up n 1 i (in_member (up_from 1 n) i m) in (t.0, omega (arith, t.1))
 
-  in_goals : (i : ℕ) → Goals n i → i isIn up_from 1 n
+  in_goals : (i : ℕ) → Goals n i → i is_in up_from 1 n
   in_goals i g = member_in (up_from 1 n) i (up_member n 1 i g.0 (omega (arith, g.1)))
 
 up_distinct : (c a : ℕ) → Pair ◌≢◌ (up_from a c)
@@ -49,19 +49,19 @@ up_distinct (suc c) a = ((λ y m e. omega (arith, (member_up c (suc a) y (in_mem
 
 module _ (R : ℕ → ℕ → Bool) (n : ℕ) where
   -- an expression over these vertices uses each goal once and has the order
-  of_compiled : (e : Expr) → ((i : ℕ) → In i e ↔ (i isIn up_from 1 n)) → Fits R e → UsesOnce n e × Matches R n e
+  of_compiled : (e : Expr) → ((i : ℕ) → In i e ↔ (i is_in up_from 1 n)) → Fits R e → UsesOnce n e × Matches R n e
   of_compiled e c f =
       let g : (i : ℕ) → In i e ↔ Goals n i = λ i. (λ p. goals_in n i ((c i).0 p), λ p. (c i).1 (in_goals n i p)) in
       (of_in n e (fits-once R e f) g, λ i j p q. fits-before R e f i j ((g i).1 p) ((g j).1 q))
 
-  list_no_n : NoN R (Goals n) ↔ NoN R (λ i. i isIn up_from 1 n)
+  list_no_n : NoN R (Goals n) ↔ NoN R (λ i. i is_in up_from 1 n)
   list_no_n = (
     (λ h a b c d ma mb mc md. h a b c d (goals_in n a ma) (goals_in n b mb) (goals_in n c mc) (goals_in n d md)),
     λ h a b c d ma mb mc md. h a b c d (in_goals n a ma) (in_goals n b mb) (in_goals n c mc) (in_goals n d md),
   )
 
   module _ (o : Strict R (Goals n)) where
-    listed : Strict R (λ i. i isIn up_from 1 n)
+    listed : Strict R (λ i. i is_in up_from 1 n)
     listed =
         record {
           unlike = λ i m. o.unlike i (goals_in n i m);
@@ -93,25 +93,25 @@ module _ (R : ℕ → ℕ → Bool) (n : ℕ) where
         go (some q) h = (q, h)
 
     -- ---- Lemma 2: "For each non-intersecting pair of sets S_i, S_j in S, there are no edges between a vertex in F(S_i) and a vertex in F(S_j)."
-    pub lemma_2 : (Si Sj : List ℕ) → Si isIn S R (up_from 1 n) → Sj isIn S R (up_from 1 n) → Disjoint Si Sj
-        → (u v : ℕ) → u isIn F R (up_from 1 n) Si → v isIn F R (up_from 1 n) Sj → (R u v ≡ false) × (R v u ≡ false)
+    pub lemma_2 : (Si Sj : List ℕ) → Si is_in S R (up_from 1 n) → Sj is_in S R (up_from 1 n) → Disjoint Si Sj
+        → (u v : ℕ) → u is_in F R (up_from 1 n) Si → v is_in F R (up_from 1 n) Sj → (R u v ≡ false) × (R v u ≡ false)
     lemma_2 Si Sj mi mj d u v mu mv = (
       lemma_2_of R (up_from 1 n) listed Si Sj mi d u v mu mv,
       lemma_2_of R (up_from 1 n) listed Sj Si mj (λ p a b. d p b a) v u mv mu,
     )
 
     module _ (e : Expr) (uses : UsesOnce n e) (order : Matches R n e) where
-      free : NoN R (λ i. i isIn up_from 1 n)
+      free : NoN R (λ i. i is_in up_from 1 n)
       free = list_no_n.0 (order_no_n R n e uses order)
 
       -- ---- Lemma 1: "The given UDG can be compiled into a linear expression without loss of parallelism, only if, for each S_i, S_j in S," they do not intersect, "or one
       -- must be a subset of the other".
-      pub lemma_1 : (Si Sj : List ℕ) → Si isIn S R (up_from 1 n) → Sj isIn S R (up_from 1 n) → Disjoint Si Sj ⊎ (Subset Si Sj ⊎ Subset Sj Si)
+      pub lemma_1 : (Si Sj : List ℕ) → Si is_in S R (up_from 1 n) → Sj is_in S R (up_from 1 n) → Disjoint Si Sj ⊎ (Subset Si Sj ⊎ Subset Sj Si)
       lemma_1 Si Sj mi mj = read_1 R (up_from 1 n) (lemma1_holds R (up_from 1 n) listed free) Si Sj mi mj
 
       -- ---- Lemma 3: for S_i inside S_j, and u, v with "u ≠ v and u in F(S_i) and v in F(S_j)", (u, v) is an edge; "else, the given UDG cannot be compiled".
-      pub lemma_3 : (Si Sj : List ℕ) → Si isIn S R (up_from 1 n) → Sj isIn S R (up_from 1 n) → Subset Si Sj → (Subset Sj Si → ⊥)
-          → (u v : ℕ) → u ≢ v → u isIn F R (up_from 1 n) Si → v isIn F R (up_from 1 n) Sj → R u v ≡ true
+      pub lemma_3 : (Si Sj : List ℕ) → Si is_in S R (up_from 1 n) → Sj is_in S R (up_from 1 n) → Subset Si Sj → (Subset Sj Si → ⊥)
+          → (u v : ℕ) → u ≢ v → u is_in F R (up_from 1 n) Si → v is_in F R (up_from 1 n) Sj → R u v ≡ true
       lemma_3 Si Sj mi mj a b u v ne mu mv =
           read_3 R (up_from 1 n) (lemma3_holds R (up_from 1 n) listed free) Si Sj mi mj a
           (⊎_elim (λ t. absurd (b (subset_in Sj Si t))) (λ t. t) (test (subset Sj Si))) u v mu mv

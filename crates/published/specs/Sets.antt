@@ -3,10 +3,10 @@ use Rattle.std.specs.Prelude.{◌≡◌, Bool, true, false, not, ◌&&◌, ◌||
 
 module _ {A : Type 0} where
   -- x stands in the list.
-  infix 4 ◌isIn◌
-  abbrev pub ◌isIn◌ : A → List A → Type 0
-  x isIn [] = ⊥
-  x isIn (y ∷ l) = (x ≡ y) ⊎ (x isIn l)
+  infix 4 ◌is_in◌
+  abbrev pub ◌is_in◌ : A → List A → Type 0
+  x is_in [] = ⊥
+  x is_in (y ∷ l) = (x ≡ y) ⊎ (x is_in l)
 
   -- All of the list pass the test p; one does; those that do.
   abbrev pub every : (A → Bool) → List A → Bool
@@ -23,10 +23,10 @@ module _ {A : Type 0} where
 
 -- Two sets of vertices do not intersect; the one is a subset of the other.
 abbrev pub Disjoint : List ℕ → List ℕ → Type 0
-Disjoint a b = (x : ℕ) → x isIn a → x isIn b → ⊥
+Disjoint a b = (x : ℕ) → x is_in a → x is_in b → ⊥
 
 abbrev pub Subset : List ℕ → List ℕ → Type 0
-Subset a b = (x : ℕ) → x isIn a → x isIn b
+Subset a b = (x : ℕ) → x is_in a → x is_in b
 
 -- Tests of sets of vertices: x is in a; a is a subset of b; a subset and not all of b; they do not intersect; they are the same.
 abbrev pub among : ℕ → List ℕ → Bool

@@ -188,7 +188,7 @@ pub fn goal_end(b: &[u8], at: usize, own: bool) -> usize
     text_at(b, at, own) + text_length_at(b, at, own)
 }
 
-// The variables known ground at it; `ground` is the header's ground set.
+// The variables known ground at it; `grounded` is the header's ground set.
 pub fn ground_of(b: &[u8], at: usize, own: bool, grounded: u64) -> u64
     requires { (at < 2 ^ 32) × (own ≡ F.own_facts b.now) × (own ≡ false → grounded ≡ F.ground_set b.now) }
     ensures { result ≡ K.ground_of b.now at }
