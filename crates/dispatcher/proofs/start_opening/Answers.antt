@@ -5,9 +5,9 @@ use Rattle.dispatcher.proofs.start_opening.Goals as goal
 pub returns-in-Refused : goal.returns-in-Refused
 unfolding start_opening
 returns-in-Refused c =
-    opened-shut _ (λ b. start_open c.args.heads) c.read.ensures c.r-1.given.1 c.shut.ensures
+    opened-shut _ (λ b. start_open c.args.heads) c.read.ensures c.in-Refused.is c.shut.ensures
 
 pub returns-in-Fine : goal.returns-in-Fine
 unfolding start_opening
 returns-in-Fine c =
-    opened-fine _ (λ b. start_open c.args.heads) c.read.ensures c.enum_told-1.given.1 c.start_open.ensures
+    opened-fine _ (λ b. start_open c.args.heads) c.read.ensures c.in-Fine.is c.start_open.ensures
