@@ -2,60 +2,74 @@
 #![tactic(auto)]
 
 ghost use Rattle.std.specs.Prelude.{◌≤◌};
+ghost use Rattle.std.specs.Io.{ReadsAtMost};
 ghost use Rattle.sets.specs.Sets.{goal_limit};
 
 use graph::Graph;
-use libc::{STDIN_FILENO, STDOUT_FILENO};
 use record_rules::Reading;
+use std::io;
+use std::io::Read;
 
-fn print_outcome(o: Reading) {
+// The size of the array into which the lines are read.
+const INPUT: usize = 65536;
+
+fn print_outcome(rt: &impl Print, o: Reading) -> io::Result<()> {
     match o {
-        Reading::Fine => {
-            io::write_all(STDOUT_FILENO, b"read\n");
-        }
-        Reading::Refused(r) => {
-            io::write_all(STDOUT_FILENO, b"refused ");
-            io::print_decimal(STDOUT_FILENO, r.number as u64);
-            io::write_all(STDOUT_FILENO, b" ");
-            io::print_decimal(STDOUT_FILENO, r.place as u64);
-            io::write_all(STDOUT_FILENO, b"\n");
-        }
+        Reading::Fine => println!(rt; "read"),
+        Reading::Refused(r) => println!(rt; "refused {} {}", r.number, r.place),
     }
 }
 
-fn print_text(text: &[u8], n: usize)
+fn print_text(rt: &impl Print, text: &[u8], n: usize) -> io::Result<()>
     requires { n ≤ goal_limit }
 {
     let answer = expression_reading::read_text(text, n);
     let outcome = answer.outcome;
-    print_outcome(outcome);
+    print_outcome(rt, outcome)
 }
 
-fn run_line(line: &[u8]) {
+fn run_line(rt: &impl Print, line: &[u8]) -> io::Result<()> {
     let mut text = [0u8; 1024];
     let n = case_lines::number(case_lines::field(line, 0)) as usize;
     let len = case_lines::bytes(case_lines::field(line, 1), &mut text);
     if n <= Graph::MAX {
         if len <= 1024 {
-            print_text(&text[..len], n);
+            print_text(rt, &text[..len], n)?;
         }
     }
+    Ok(())
 }
 
-fn run_all(s: &[u8]) {
+fn run_all(rt: &impl Print, s: &[u8]) -> io::Result<()> {
     let mut at: usize = 0;
     while at < s.len() {
         let end = case_lines::find(s, at, 10);
-        run_line(&s[at..end]);
+        run_line(rt, &s[at..end])?;
         at = end + 1;
     }
+    Ok(())
 }
 
-fn main() {
-    let mut lines = io::large_buffer();
-    let n = io::read_full(STDIN_FILENO, &mut lines);
-    if n == 0 {
-        io::write_all(STDOUT_FILENO, b"no case\n");
+// Reads until `buf` is full or the input ends, and answers how many bytes it put at the start of `buf`.
+fn read_full<R: Read>(reader: &mut R, buf: &mut [u8]) -> io::Result<usize>
+    ensures { ReadsAtMost result buf.new }
+{
+    let mut done = 0;
+    while done < buf.len() {
+        let n = reader.read(&mut buf[done..])?;
+        if n == 0 {
+            break;
+        }
+        done += n;
     }
-    run_all(&lines[..n]);
+    Ok(done)
+}
+
+fn main(rt: HostRuntime) -> io::Result<()> {
+    let mut lines = [0u8; INPUT];
+    let n = read_full(&mut rt.reader(), &mut lines)?;
+    if n == 0 {
+        println!(rt; "no case")?;
+    }
+    run_all(&rt, &lines[..n])
 }

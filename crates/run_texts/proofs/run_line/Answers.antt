@@ -8,7 +8,7 @@ use Rattle.run_texts.proofs.run_line.Goals as goal
 
 -- src/main.rt:36:24
 pub slice_bounds-print_text-end : goal.slice_bounds-print_text-end
-slice_bounds-print_text-end c =
+slice_bounds-print_text-end g c =
     let b = c.bytes-len in
     let k = kept b.ensures in
     let f : b.result ≤ 1024 = search rules in
