@@ -5,7 +5,7 @@
 use mathlib.Core.Path.{◌≡◌, refl, sym, ap, ap₂, ◌∙◌}
 use mathlib.Core.Bool.{◌&&◌}
 use mathlib.Core.List.{List}
-use mathlib.Core.Logic.{◌⊎◌, inl, inr, ⊎_elim, ◌↔◌}
+use mathlib.Core.Logic.{inl, inr, ⊎_elim, ◌↔◌}
 use mathlib.Core.Option.{Option, none, some}
 use Prim.Native.Nat.{ℕ, ◌≤◌}
 use native.Mathlib.Omega.{arith}
@@ -22,13 +22,11 @@ use Rattle.record.proofs.WellFormed.{fine_well_formed}
 use Rattle.order.specs.Order.{pass_count}
 use Rattle.record.proofs.Refusals.{refusal_number}
 use Rattle.expression.specs.Expr.{Expr}
-use Rattle.expression.specs.Form.{form}
 use Rattle.expression.specs.Search.{Four}
-use Rattle.expression.specs.Text.{text}
 use Rattle.expression_grammar.specs.Reader as R
 use Rattle.expression_grammar.specs.Numbers.{misuse}
 use Rattle.expression_grammar.specs.TextRules.{expression_limit, open_limit, numbered, decided, read_text}
-use Rattle.expression_grammar.specs.Check.{same, verdict, checked}
+use Rattle.expression_grammar.specs.Check.{same, checked}
 use Rattle.order_compare.specs.declared.Pair.{Pair}
 use Rattle.order_compare.specs.declared.Verdict as Verdicts
 use Rattle.order_compare.specs.declared.Verdict.TheVariants.{Same, Differs}
