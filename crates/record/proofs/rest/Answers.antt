@@ -1,5 +1,5 @@
-use Prim.Native.Nat.{ℕ, ◌+◌}
-use mathlib.Core.Path.{◌≡◌, sym, ap, ap₂, ◌∙◌}
+use Prim.Native.Nat.{ℕ}
+use mathlib.Core.Path.{◌≡◌, sym, ap, ◌∙◌}
 use native.Mathlib.Omega.{arith}
 use Rattle.sets.specs.Sets.{below}
 use Rattle.record_fields.specs.Fields as F
@@ -49,12 +49,6 @@ whole_ground-before-requires c =
       λ e. l.invariant.2.1 ∙ before_plain b (sym own ∙ e) l.g,
     )
 
-pub text_at-requires : goal.text_at-requires
-text_at-requires c = (omega arith, c.own_facts-own.ensures)
-
-pub overflow_add-at : goal.overflow_add-at
-overflow_add-at c = omega arith
-
 pub overflow_add-g : goal.overflow_add-g
 overflow_add-g c = omega arith
 
@@ -69,7 +63,7 @@ loop-g-preserved c =
       omega arith,
       goals_go b l.g l.at l.before l.met here l.invariant.1 (sym c.goal_fine.ensures ∙ c.if-goal_fine.true),
       (
-        ap₂ ◌+◌ c.text_at.ensures.value c.text_length_at-k.ensures.value ∙ place_turn b l.g l.at here.0,
+        (let e = place_turn b l.g l.at here.0 in cc),
         c.whole_ground-before.ensures ∙ ground_more b l.g l.at here.0,
         c.union-met.ensures ∙ met_more b l.g l.at l.met _ here.0 here.2 c.whole_set.ensures,
       ),
