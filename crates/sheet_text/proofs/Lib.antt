@@ -2,3 +2,4 @@ pub mod Lines
 pub mod Forms
 pub mod Mel
 pub mod Sheet
+mod InPlace

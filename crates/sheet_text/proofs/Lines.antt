@@ -109,3 +109,7 @@ none-length q =
       length-append (form_word ++ none_word ++ spaced q.a) (spaced q.b),
       length-append (form_word ++ none_word) (spaced q.a),
     )
+
+-- a refusal's line is short
+pub refused-short : (k p : ℕ) → k < 256 → p < 2 ^ 64 → length (refused_text k p) ≤ 49
+refused-short k p h i = omega (arith, refused-length k p, digits k (omega arith), digits p i)

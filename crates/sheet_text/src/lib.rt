@@ -1,8 +1,9 @@
 // Writing the printed sheet of a record. Each function writes into a lent array from a place on and answers the next place (crate `buffer`).
 #![tactic(auto)]
 
-ghost use Rattle.std.specs.Prelude.{◌≡◌, ◌+◌, ◌^◌, ◌<◌, ◌≤◌, length, take};
-ghost use Rattle.io.specs.Counts.{IsPrefixLen};
+ghost use Rattle.std.specs.Prelude.{◌≡◌, ◌+◌, ◌^◌, ◌<◌, ◌≤◌, ◌++◌, ◌⊎◌, ℕ, length, take, IfOk, OnOk, OnErr};
+ghost use Rattle.std.specs.Io.{ReadsAtMost};
+ghost use Rattle.std.specs.Io.KnownBytes.{Appends, Consumes, IsAtEnd};
 ghost use Rattle.buffer.specs.Text.{Wrote};
 ghost use Rattle.record_fields.specs.Fields as F;
 ghost use Rattle.record.specs.WellFormed.{WellFormed};
@@ -13,8 +14,9 @@ ghost use Rattle.sheet_text.specs.Sheet as S;
 ghost use Rattle.sheet_text.specs.Parts as R;
 
 use form_first_n::Four;
-use libc::STDOUT_FILENO;
 use record_rules::Reading;
+use std::io;
+use std::io::{Read, Write};
 
 // The size of the array into which a record is read.
 pub const INPUT: usize = 4096;
@@ -185,10 +187,20 @@ pub fn write(bytes: &[u8], lines: &mut [u8], text: &mut [u8]) -> Parts
     }
 }
 
-// Prints the sheet of a record on standard output: the three parts that `write` names. `text` is the room for the MEL text.
-fn print(bytes: &[u8], text: &mut [u8])
+// Writes three parts, one after the other.
+fn put_parts<W: Write>(out: &mut W, top: &[u8], mel: &[u8], rest: &[u8]) -> io::Result<()>
+    ensures { OnOk result (Appends (W.contents out.old) (W.contents out.new) (top.now ++ mel.now ++ rest.now)) }
+{
+    out.write_all(top)?;
+    out.write_all(mel)?;
+    out.write_all(rest)
+}
+
+// Prints the sheet of a record: the three parts that `write` names. `text` is the room for the MEL text.
+fn print<W: Write>(out: &mut W, bytes: &[u8], text: &mut [u8]) -> io::Result<()>
     requires { length text.old ≡ S.mel_room }
-    ensures { text.new ≡ M.mel_buffer bytes.now text.old }
+    ensures text_after { text.new ≡ M.mel_buffer bytes.now text.old }
+    ensures printed { OnOk result (Appends (W.contents out.old) (W.contents out.new) (S.sheet bytes.now)) }
 {
     let mut space = [0u8; LINES];
     let parts = write(bytes, &mut space, text);
@@ -196,19 +208,43 @@ fn print(bytes: &[u8], text: &mut [u8])
     let mel = parts.mel;
     let end = parts.end;
     let lines: &[u8] = &space;
-    io::write_all(STDOUT_FILENO, &lines[..top]);
-    io::write_all(STDOUT_FILENO, &text[..mel]);
-    io::write_all(STDOUT_FILENO, &lines[top..end]);
+    put_parts(out, &lines[..top], &text[..mel], &lines[top..end])
 }
 
-// Reads a record from the file `fd` into `input`, until the array is full or the file ends, and prints its sheet. Answers the record's length.
-pub fn run(fd: i32, input: &mut [u8], text: &mut [u8]) -> usize
+// Reads until `buf` is full or the input ends, and answers how many bytes it put at the start of `buf`.
+fn read_full<R: Read>(reader: &mut R, buf: &mut [u8]) -> io::Result<usize>
+    ensures in_bounds { ReadsAtMost result buf.new }
+    ensures taken { IfOk result (λ n. Consumes (R.remaining reader.old) (R.remaining reader.new) (take n buf.new)) }
+    ensures end { IfOk result (λ n. n < length buf.new → IsAtEnd (R.remaining reader.new)) }
+{
+    let mut done = 0;
+    while done < buf.len() {
+        let n = reader.read(&mut buf[done..])?;
+        if n == 0 {
+            return Ok(done);
+        }
+        done += n;
+    }
+    Ok(done)
+}
+
+// Reads a record from `reader` into `input`, until the array is full or the reader ends, and prints its sheet to `out`. Answers the record's length.
+pub fn run<R: Read, W: Write>(
+    reader: &mut R,
+    out: &mut W,
+    input: &mut [u8],
+    text: &mut [u8],
+) -> io::Result<usize>
     requires input_len { length input.old ≡ S.input_room }
     requires text_len { length text.old ≡ S.mel_room }
-    ensures prefix_len { IsPrefixLen result input.new }
-    ensures text_after { text.new ≡ M.mel_buffer (take result input.new) text.old }
+    ensures prefix_len { ReadsAtMost result input.new }
+    ensures text_after { IfOk result (λ n. text.new ≡ M.mel_buffer (take n input.new) text.old) }
+    ensures taken { IfOk result (λ n. Consumes (R.remaining reader.old) (R.remaining reader.new) (take n input.new)) }
+    ensures end { IfOk result (λ n. n < length input.new → IsAtEnd (R.remaining reader.new)) }
+    ensures printed { IfOk result (λ n. Appends (W.contents out.old) (W.contents out.new) (S.sheet (take n input.new))) }
+    ensures err { OnErr result ((text.new ≡ text.old) ⊎ ((n : ℕ) × (n ≤ length input.new) × (text.new ≡ M.mel_buffer (take n input.new) text.old))) }
 {
-    let n = io::read_full(fd, input);
-    print(&input[..n], text);
-    n
+    let n = read_full(reader, input)?;
+    print(out, &input[..n], text)?;
+    Ok(n)
 }

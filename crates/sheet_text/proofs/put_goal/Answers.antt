@@ -17,4 +17,4 @@ put_byte-requires c = omega (arith, goal-length c.args.g c.args.shown.now)
 
 pub returns : goal.returns
 returns c =
-    recast (goal-parts _ _) (then (then (then c.put_number-o.ensures c.put_byte.ensures) c.put_bytes-o.ensures) c.put_byte.ensures)
+    recast (goal-parts _ _) (then (then (then c.put_number-o.ensures c.put_byte-o.ensures) c.put_bytes-o.ensures) c.put_byte.ensures)

@@ -18,4 +18,4 @@ put_spaced-requires c = omega (arith, none-length (four c.args.q))
 
 pub returns : goal.returns
 returns c =
-    recast (none-parts _) (then (then (then (then c.put_bytes-o.ensures c.put_spaced.ensures) c.put_spaced-o-2.ensures) c.put_spaced-o-3.ensures) c.put_spaced.ensures)
+    recast (none-parts _) (then (then (then (then c.put_bytes-o.ensures c.put_spaced-o.ensures) c.put_spaced-o-2.ensures) c.put_spaced-o-3.ensures) c.put_spaced.ensures)

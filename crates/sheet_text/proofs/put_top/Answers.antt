@@ -1,5 +1,5 @@
 use mathlib.Core.Path.{ap}
-use Prim.Native.Nat.{◌≤◌}
+use Prim.Native.Nat.{ℕ, ◌≤◌, ◌<◌, ◌^◌}
 use native.Mathlib.Omega.{arith}
 use native.Mathlib.Nat.{le_refl}
 use lib.ListN.{length}
@@ -11,23 +11,46 @@ use Rattle.sheet_text.proofs.Sheet.{top-parts}
 use Rattle.sheet_text.proofs.put_top.Goals as goal
 
 -- the first line has at most 27 bytes
-first-line : (c : goal.After-goal_count-goals) → length (count_line c.goal_count-goals.result) ≤ 27
-first-line c = omega (arith, count-length c.goal_count-goals.result, digits c.goal_count-goals.result (omega (arith, c.goal_count-goals.ensures.upper_bound)))
+first-line : (n : ℕ) → n < 2 ^ 64 → length (count_line n) ≤ 27
+first-line n h = omega (arith, count-length n, digits n h)
 
 pub put_count-o-requires : goal.put_count-o-requires
-put_count-o-requires c = omega (arith, first-line c.before)
+put_count-o-requires c = omega (arith, first-line c.goal_count-goals.result (omega (arith, c.goal_count-goals.ensures.upper_bound)))
 
 pub put_goals-o-requires : goal.put_goals-o-requires
-put_goals-o-requires c = record { well_formed = c.requires; at_bound = omega (arith, first-line c.before.before.before.before.before) }
+put_goals-o-requires c = record {
+  well_formed = c.requires;
+  at_bound = omega (arith, first-line c.goal_count-goals.result (omega (arith, c.goal_count-goals.ensures.upper_bound)), c.put_count-o.ensures.place);
+}
 
 pub put_form-o-requires : goal.put_form-o-requires
 put_form-o-requires c =
-    let w = c.requires in record { well_formed = w; at_bound = omega (arith, first-line c.before.before.before.before.before.before.before.before.before, goals-length _ w _ (le_refl _), w.goals_to) }
+    let w = c.requires in record {
+      well_formed = w;
+      at_bound =
+          omega (
+            arith,
+            first-line c.goal_count-goals.result (omega (arith, c.goal_count-goals.ensures.upper_bound)),
+            c.put_count-o.ensures.place,
+            c.put_goals-o.ensures.place,
+            goals-length _ w _ (le_refl _),
+            w.goals_to,
+          );
+    }
 
 pub put_bytes-requires : goal.put_bytes-requires
 put_bytes-requires c =
     let w = c.requires in
-    omega (arith, first-line c.before.before.before.before.before.before.before.before.before.before.before.before.before.before.before, goals-length _ w _ (le_refl _), w.goals_to, form_limit_lem _ w)
+    omega (
+      arith,
+      first-line c.goal_count-goals.result (omega (arith, c.goal_count-goals.ensures.upper_bound)),
+      c.put_count-o.ensures.place,
+      c.put_goals-o.ensures.place,
+      c.put_form-o.ensures.place,
+      goals-length _ w _ (le_refl _),
+      w.goals_to,
+      form_limit_lem _ w,
+    )
 
 pub returns : goal.returns
 returns c =
