@@ -1,10 +1,16 @@
 // Reads a clause record from standard input and prints its sheet.
 #![tactic(auto)]
 
-use libc::STDIN_FILENO;
+use std::io;
 
-fn main() {
+fn main(rt: HostRuntime) -> io::Result<()> {
     let mut input = [0u8; sheet_text::INPUT];
     let mut text = [0u8; sheet_text::MEL_ROOM];
-    sheet_text::run(STDIN_FILENO, &mut input, &mut text);
+    sheet_text::run(
+        &mut rt.reader(),
+        &mut io::writer(&rt),
+        &mut input,
+        &mut text,
+    )?;
+    Ok(())
 }
