@@ -10,26 +10,7 @@ use Rattle.expression.specs.Arrange.{Strict}
 use Rattle.logic.proofs.Bools.{test, and-true, not-true, beq_true, beq_same}
 use Rattle.published.specs.Sets.{◌is_in◌, every, any, among, subset}
 use Rattle.published.specs.Figure1.{P, Q, E, S, F}
-use Rattle.published.proofs.Lists.{
-  every_in,
-  in_every,
-  any-true,
-  any_false,
-  none_any,
-  in_any,
-  those_in,
-  in_those,
-  those_le,
-  those_fewer,
-  map_in,
-  in_map,
-  among_in,
-  in_among,
-  out_among,
-  subset_in,
-  distinct_in,
-  in_distinct,
-}
+use Rattle.published.proofs.Lists.{every_in, in_every, any-true, any_false, none_any, those_in, in_those, those_le, those_fewer, map_in, in_map, in_among, out_among, subset_in, distinct_in, in_distinct}
 
 module _ (R : ℕ → ℕ → Bool) (W : List ℕ) where
   -- ---- P: no vertex is before them

@@ -1,6 +1,6 @@
 -- How a loop that takes the lowest member off finds what is in the row of each member of a set, for any width.
 use mathlib.Core.Path.{◌≡◌, sym, ap, ap₂, ◌∙◌}
-use mathlib.Core.Bool.{Bool, true, false, not, ◌&&◌, false≢true, and-true, and_assoc}
+use mathlib.Core.Bool.{Bool, true, not, ◌&&◌, false≢true, and-true, and_assoc}
 use mathlib.Core.List.{List}
 use Prim.Native.Nat.{ℕ, ◌^◌, ◌<◌}
 use native.Mathlib.Decide.{ℕ_discrete}

@@ -48,7 +48,6 @@ use Rattle.expression_grammar.proofs.Theorems.{form-same}
 use Rattle.published.specs.Figure1.{figure1}
 use Rattle.published.specs.Linear.{udg_expr}
 use Rattle.published.proofs.Theorems.{figure_1_first_n, udg_text}
-use Rattle.mel_stages.specs.Mel.{checks}
 use Rattle.record_text.specs.declared.Span.{Span}
 use Rattle.record_text.specs.declared.TextAnswer.{TextAnswer}
 use Rattle.record_text.specs.Texts.{goal_text, text_outcome, no_span, text_part}

@@ -2,7 +2,6 @@ use mathlib.Core.Path.{ap, ◌∙◌}
 use mathlib.Core.List.{[], ◌∷◌, ◌++◌}
 use native.Mathlib.Omega.{arith}
 use lib.ListN.{length, length-append}
-use borrow.Author.Rules.{rules}
 use Prim.Native.Nat.{ℕ, ◌/◌}
 use Rattle.buffer.proofs.Writing.{then, recast}
 use Rattle.buffer.specs.Decimal.{decimal}
