@@ -1,4 +1,1 @@
-pub mod Values
 pub mod SweepLaws
-pub mod Lending
-pub mod CallTurn

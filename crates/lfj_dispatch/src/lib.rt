@@ -1,4 +1,5 @@
 // The dispatcher (02, request 4), a product of its own over the annotator: its two operations, over the row of heads that the caller lends. Neither has a precondition.
+// `lfj_dispatch_c` exports both under their names.
 //
 // `bytes` is the record, which stays as it was; `ended` the set of goals that have ended, goal g at bit g - 1, as the call before gave it back. Reading the record starts both, so
 // its refusals, 1 to 11, 18 and 19, come first, then 20. With any refusal the row is as it was and the set is 0, bits 0 to 31 of the word being the place: a caller keeps its own.
@@ -51,8 +52,7 @@ fn turn(heads: &mut [Head], o: Opening) -> u64
 }
 
 // One tick: the goals that have ended after it.
-#[unsafe(no_mangle)]
-pub extern "C" fn lfj_tick(bytes: &[u8], heads: &mut [Head], ended: u32) -> u64
+pub fn lfj_tick(bytes: &[u8], heads: &mut [Head], ended: u32) -> u64
     ensures { (result ≡ tick_word (T.tick_answer bytes.now heads.old ended)) × (heads.new ≡ T.tick_row bytes.now heads.old ended) }
 {
     let o = dispatcher::tick_opening(bytes, heads.len(), ended);
@@ -60,8 +60,7 @@ pub extern "C" fn lfj_tick(bytes: &[u8], heads: &mut [Head], ended: u32) -> u64
 }
 
 // A start: all heads idle, and no goal has ended.
-#[unsafe(no_mangle)]
-pub extern "C" fn lfj_start(bytes: &[u8], heads: &mut [Head]) -> u64
+pub fn lfj_start(bytes: &[u8], heads: &mut [Head]) -> u64
     ensures { (result ≡ tick_word (T.start_answer bytes.now heads.old)) × (heads.new ≡ T.start_row bytes.now heads.old) }
 {
     let o = dispatcher::start_opening(bytes, heads.len());

@@ -1,0 +1,9 @@
+use native.Mathlib.Omega.{arith}
+use Rattle.lfj_dispatch.proofs.SweepLaws.{swept_more, swept_all}
+use Rattle.lfj_dispatch.proofs.sweep.Goals as goal
+
+pub loop-i-preserved : goal.loop-i-preserved
+loop-i-preserved c = swept_more _ _ _ _ _ _ c.loop-i.invariant (omega arith) _ c.step-out.ensures
+
+pub returns : goal.returns
+returns c = let e = swept_all _ _ _ _ _ _ c.loop-i.invariant (omega (arith, c.loop-i.invariant.long)) in (e.1, e.0)
