@@ -8,7 +8,7 @@ use Rattle.record_rules.specs.declared.Refusal.{Refusal}
 use Rattle.record_rules.specs.declared.Reading.{Reading}
 use Rattle.record_rules.specs.declared.Reading.TheVariants.{Fine, Refused as Unread}
 use Rattle.record_rules.specs.Reading.{reading}
-use Rattle.record_rules.specs.Outcome.{Outcome, accepted, values}
+use Rattle.record_rules.specs.Outcome.{Outcome, accepted}
 use Rattle.record_rules.proofs.Outcomes.{told_apart, read-refused, read-fine, by_reading}
 use Rattle.order.specs.Order.{order}
 use Rattle.annotator.specs.declared.ReadAnswer.{ReadAnswer}

@@ -1,10 +1,10 @@
 -- The word of each case of an answer.
 use mathlib.Core.Path.{◌≡◌, sym, ap, ap₂, ◌∙◌}
-use mathlib.Core.Option.{Option, none, some}
+use mathlib.Core.Option.{Option, some}
 use Prim.Native.Nat.{ℕ, ◌%◌, ◌^◌}
 use native.Mathlib.Omega.{arith}
 use Rattle.record_rules.specs.declared.Refusal.{Refusal}
-use Rattle.record_rules.specs.Outcome.{Outcome, refused, accepted}
+use Rattle.record_rules.specs.Outcome.{Outcome, refused}
 use Rattle.expression.specs.Search.{Four}
 use Rattle.expression_grammar.specs.Check as Check
 use Rattle.order_compare.specs.declared.Verdict as Verdicts

@@ -1,5 +1,5 @@
-// The operations for callers in C and Rust: one exported function each, thin over `annotator`. Each answers one word (lfj_words) and has no
-// precondition; what is lent by `&` cannot change.
+// The operations as callers in C and Rust have them, thin over `annotator`: one function each, which `lfj_c` exports under its name. Each answers one word (lfj_words)
+// and has no precondition; what is lent by `&` cannot change.
 #![tactic(auto)]
 
 ghost use Rattle.std.specs.Prelude.{◌≡◌};
@@ -23,16 +23,14 @@ use record_rules::{Reading, Refusal};
 use record_text::TextAnswer;
 
 // The version of this interface.
-#[unsafe(no_mangle)]
-pub extern "C" fn lfj_version() -> u32
+pub fn lfj_version() -> u32
     ensures { result ≡ W.version }
 {
     lfj_words::version()
 }
 
 // Reads the record: the goal count.
-#[unsafe(no_mangle)]
-pub extern "C" fn lfj_read(bytes: &[u8]) -> u64
+pub fn lfj_read(bytes: &[u8]) -> u64
     ensures { result ≡ W.read_word (P.read bytes.now) }
 {
     match annotator::read(bytes) {
@@ -42,8 +40,7 @@ pub extern "C" fn lfj_read(bytes: &[u8]) -> u64
 }
 
 // Fills `rows` with the whole order, row g - 1 with the goals that goal g is before: the goal count.
-#[unsafe(no_mangle)]
-pub extern "C" fn lfj_order(bytes: &[u8], rows: &mut [u32; Graph::MAX]) -> u64
+pub fn lfj_order(bytes: &[u8], rows: &mut [u32; Graph::MAX]) -> u64
     ensures value { result ≡ W.read_word (P.read bytes.now) }
     ensures rows_after { rows.new ≡ filled bytes.now (order bytes.now).rows rows.old }
 {
@@ -61,8 +58,7 @@ pub extern "C" fn lfj_order(bytes: &[u8], rows: &mut [u32; Graph::MAX]) -> u64
 }
 
 // The number of passes in which the graph of waits is closed.
-#[unsafe(no_mangle)]
-pub extern "C" fn lfj_passes(bytes: &[u8]) -> u64
+pub fn lfj_passes(bytes: &[u8]) -> u64
     ensures { result ≡ W.read_word (P.passes bytes.now) }
 {
     let answer = annotator::order(bytes);
@@ -74,8 +70,7 @@ pub extern "C" fn lfj_passes(bytes: &[u8]) -> u64
 }
 
 // The goals that a goal is before: their set.
-#[unsafe(no_mangle)]
-pub extern "C" fn lfj_after(bytes: &[u8], goal: u32) -> u64
+pub fn lfj_after(bytes: &[u8], goal: u32) -> u64
     ensures { result ≡ W.after_word (L.after bytes.now goal) }
 {
     let answer = annotator::order(bytes);
@@ -97,8 +92,7 @@ pub extern "C" fn lfj_after(bytes: &[u8], goal: u32) -> u64
 }
 
 // Writes the house form into `out`: its length.
-#[unsafe(no_mangle)]
-pub extern "C" fn lfj_form(bytes: &[u8], out: &mut [u8]) -> u64
+pub fn lfj_form(bytes: &[u8], out: &mut [u8]) -> u64
     ensures value { result ≡ W.form_word (F.form_answer bytes.now out.old) (F.shown bytes.now) }
     ensures out_after { out.new ≡ F.form_buffer bytes.now out.old }
 {
@@ -110,8 +104,7 @@ pub extern "C" fn lfj_form(bytes: &[u8], out: &mut [u8]) -> u64
 }
 
 // The form's length.
-#[unsafe(no_mangle)]
-pub extern "C" fn lfj_form_length(bytes: &[u8]) -> u64
+pub fn lfj_form_length(bytes: &[u8]) -> u64
     ensures { result ≡ W.form_word (F.form_length bytes.now) (F.shown bytes.now) }
 {
     match annotator::form_length(bytes) {
@@ -122,8 +115,7 @@ pub extern "C" fn lfj_form_length(bytes: &[u8]) -> u64
 }
 
 // Writes the MEL annotation into `out`: its length.
-#[unsafe(no_mangle)]
-pub extern "C" fn lfj_mel(bytes: &[u8], out: &mut [u8]) -> u64
+pub fn lfj_mel(bytes: &[u8], out: &mut [u8]) -> u64
     ensures value { result ≡ W.mel_word (M.mel_answer bytes.now out.old) }
     ensures out_after { out.new ≡ M.mel_buffer bytes.now out.old }
 {
@@ -134,8 +126,7 @@ pub extern "C" fn lfj_mel(bytes: &[u8], out: &mut [u8]) -> u64
 }
 
 // Where the text of a goal stands: its place and its length.
-#[unsafe(no_mangle)]
-pub extern "C" fn lfj_goal_text(bytes: &[u8], goal: u32) -> u64
+pub fn lfj_goal_text(bytes: &[u8], goal: u32) -> u64
     ensures { result ≡ L.text_word (T.goal_text bytes.now goal) }
 {
     match annotator::find_text(bytes, goal) {
@@ -145,8 +136,7 @@ pub extern "C" fn lfj_goal_text(bytes: &[u8], goal: u32) -> u64
 }
 
 // Holds an expression's text against the record's order: 0 for same, else i and j.
-#[unsafe(no_mangle)]
-pub extern "C" fn lfj_check(bytes: &[u8], text: &[u8]) -> u64
+pub fn lfj_check(bytes: &[u8], text: &[u8]) -> u64
     ensures { result ≡ W.check_word (P.check bytes.now text.now) }
 {
     match annotator::check(bytes, text) {
@@ -179,8 +169,7 @@ fn variables(said: Reading, bytes: &[u8]) -> u64
 }
 
 // Fills `sets` with the variables of the goals, those of goal g at place g - 1: the goal count.
-#[unsafe(no_mangle)]
-pub extern "C" fn lfj_goal_sets(bytes: &[u8], sets: &mut [u64; Graph::MAX]) -> u64
+pub fn lfj_goal_sets(bytes: &[u8], sets: &mut [u64; Graph::MAX]) -> u64
     ensures value { result ≡ W.read_word (P.read bytes.now) }
     ensures sets_after { sets.new ≡ filled bytes.now (C.goal_sets goal_limit bytes.now) sets.old }
 {
@@ -189,8 +178,7 @@ pub extern "C" fn lfj_goal_sets(bytes: &[u8], sets: &mut [u64; Graph::MAX]) -> u
 }
 
 // Fills `sets` with the variables known ground at the goals, those at goal g at place g - 1: the goal count.
-#[unsafe(no_mangle)]
-pub extern "C" fn lfj_ground_sets(bytes: &[u8], sets: &mut [u64; Graph::MAX]) -> u64
+pub fn lfj_ground_sets(bytes: &[u8], sets: &mut [u64; Graph::MAX]) -> u64
     ensures value { result ≡ W.read_word (P.read bytes.now) }
     ensures sets_after { sets.new ≡ filled bytes.now (C.ground_sets goal_limit bytes.now) sets.old }
 {
@@ -199,8 +187,7 @@ pub extern "C" fn lfj_ground_sets(bytes: &[u8], sets: &mut [u64; Graph::MAX]) ->
 }
 
 // Fills `ticks` with the ticks of the goals, those of goal g at place g - 1: the goal count.
-#[unsafe(no_mangle)]
-pub extern "C" fn lfj_ticks(bytes: &[u8], ticks: &mut [u32; Graph::MAX]) -> u64
+pub fn lfj_ticks(bytes: &[u8], ticks: &mut [u32; Graph::MAX]) -> u64
     ensures value { result ≡ W.read_word (P.read bytes.now) }
     ensures ticks_after { ticks.new ≡ filled bytes.now (C.goal_ticks goal_limit bytes.now) ticks.old }
 {
@@ -209,8 +196,7 @@ pub extern "C" fn lfj_ticks(bytes: &[u8], ticks: &mut [u32; Graph::MAX]) -> u64
 }
 
 // Fills `rows` with the listed pairs, row x with the variables that are listed in a pair with x: the variable count.
-#[unsafe(no_mangle)]
-pub extern "C" fn lfj_listed(bytes: &[u8], rows: &mut [u64; sets::VARIABLES]) -> u64
+pub fn lfj_listed(bytes: &[u8], rows: &mut [u64; sets::VARIABLES]) -> u64
     ensures value { result ≡ W.read_word (L.variables bytes.now) }
     ensures rows_after { rows.new ≡ filled bytes.now (C.pair_rows variable_limit bytes.now) rows.old }
 {
@@ -219,8 +205,7 @@ pub extern "C" fn lfj_listed(bytes: &[u8], rows: &mut [u64; sets::VARIABLES]) ->
 }
 
 // Puts the head's variables into `head`: the variable count.
-#[unsafe(no_mangle)]
-pub extern "C" fn lfj_head(bytes: &[u8], head: &mut u64) -> u64
+pub fn lfj_head(bytes: &[u8], head: &mut u64) -> u64
     ensures value { result ≡ W.read_word (L.variables bytes.now) }
     ensures head_after { head.new ≡ filled bytes.now (head_set bytes.now) head.old }
 {

@@ -8,7 +8,7 @@ pub row-requires : goal.row-requires
 row-requires c =
     let b = c.args.bytes.now in
     let g = c.args.goal in
-    let fine = was_accepted b c.order-answer.ensures.reading_value c.reading-in-Accepted-1.given.1 in
+    let fine = was_accepted b c.order-answer.ensures.reading_value c.in-Accepted.is in
     let r = in_range b g (fine_well_formed b fine.0) (tested b g c.inside.ensures c.if-inside.true fine.1) in
     (omega arith, omega arith)
 
@@ -16,15 +16,15 @@ pub returns-then-inside : goal.returns-then-inside
 returns-then-inside c =
     let b = c.args.bytes.now in
     let g = c.args.goal in
-    let fine = was_accepted b c.order-answer.ensures.reading_value c.reading-in-Accepted-1.given.1 in
-    after-row b g fine.0 c.order-answer.ensures.graph_value.0 (tested b g c.inside.ensures c.if-inside.true fine.1) c.row.ensures
+    let fine = was_accepted b c.order-answer.ensures.reading_value c.in-Accepted.is in
+    after-row b g fine.0 c.order-answer.ensures.graph_value (tested b g c.inside.ensures c.if-inside.true fine.1) c.row.ensures
 
 pub returns-in-Refused : goal.returns-in-Refused
-returns-in-Refused c = after-refused _ _ _ c.order-answer.ensures.reading_value c.reading-1.given.1 c.refused.ensures
+returns-in-Refused c = after-refused _ _ _ c.order-answer.ensures.reading_value c.in-Refused.is c.refused.ensures
 
 pub returns-else-inside : goal.returns-else-inside
 returns-else-inside c =
     let b = c.args.bytes.now in
     let g = c.args.goal in
-    let fine = was_accepted b c.order-answer.ensures.reading_value c.reading-in-Accepted-1.given.1 in
+    let fine = was_accepted b c.order-answer.ensures.reading_value c.in-Accepted.is in
     after_outside b g fine.0 (tested b g c.inside.ensures c.if-inside.false fine.1) c.refused-in-Accepted.ensures

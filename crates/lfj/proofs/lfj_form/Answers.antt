@@ -2,10 +2,10 @@ use Rattle.lfj.proofs.Words.{form-refused, form-none, form_done, form_word_lem}
 use Rattle.lfj.proofs.lfj_form.Goals as goal
 
 pub returns-in-Refused : goal.returns-in-Refused
-returns-in-Refused c = let f = c.form.ensures in record { value = form_word_lem c.form.result f.0 f.1.0 (form-refused _ c.r-1.given.1 c.refused.ensures); out_after = f.1.1 }
+returns-in-Refused c = let f = c.form.ensures in record { value = form_word_lem c.form.result f.result_value f.result_value_2 (form-refused _ c.in-Refused.is c.refused.ensures); out_after = f.out_after }
 
 pub returns-in-NoForm : goal.returns-in-NoForm
-returns-in-NoForm c = let f = c.form.ensures in record { value = form_word_lem c.form.result f.0 f.1.0 (form-none _ c.q-1.given.1 c.no_form.ensures); out_after = f.1.1 }
+returns-in-NoForm c = let f = c.form.ensures in record { value = form_word_lem c.form.result f.result_value f.result_value_2 (form-none _ c.in-NoForm.is c.no_form.ensures); out_after = f.out_after }
 
 pub returns-in-Done : goal.returns-in-Done
-returns-in-Done c = let f = c.form.ensures in record { value = form_word_lem c.form.result f.0 f.1.0 (form_done _ c.n-1.given.1 c.low.ensures); out_after = f.1.1 }
+returns-in-Done c = let f = c.form.ensures in record { value = form_word_lem c.form.result f.result_value f.result_value_2 (form_done _ c.in-Done.is c.low.ensures); out_after = f.out_after }

@@ -6,9 +6,9 @@ use Rattle.lfj.proofs.lfj_order.Goals as goal
 pub returns-in-Refused : goal.returns-in-Refused
 returns-in-Refused c =
     let e = c.order-answer.ensures.reading_value in
-    let f = c.reading-1.given.1 in record { value = read-refused e _ f c.refused.ensures; rows_after = rows_refused _ _ _ _ e f }
+    let f = c.in-Refused.is in record { value = read-refused e _ f c.refused.ensures; rows_after = rows_refused _ _ _ _ e f }
 
 pub returns-in-Accepted : goal.returns-in-Accepted
 returns-in-Accepted c =
     let e = c.order-answer.ensures in
-    let f = c.reading-in-Accepted-1.given.1 in record { value = read_accepted e.0 _ f; rows_after = rows_fine _ _ (was_accepted _ e.0 f).0 e.1.0 }
+    let f = c.in-Accepted.is in record { value = read_accepted e.reading_value _ f; rows_after = rows_fine _ _ (was_accepted _ e.reading_value f).0 e.graph_value }
