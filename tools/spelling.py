@@ -20,6 +20,8 @@ LIBRARY = set("""append length take drop map get_or set sum add sub mul div mod 
 reverse concat filter cond not and or true false eqb leb ltb nil cons repeat""".split())
 # Names that would fall together with another definition.
 GIVEN = {"pairs_of": "pairs_at_most"}
+# An operator and a parameter.
+WORDS = {"isIn": "is_in", "isVersion": "is_version"}
 # A parameter and a field that had the name of a tactic, which no clause may say.
 TACTIC = re.compile(r"(?<![\w\"'-])ground(?![\w\"'(-])")
 
@@ -116,6 +118,8 @@ def main():
             new = source(body, cut, turned)
         else:
             new = respelled(body, os.path.relpath(path, ROOT))
+        if path.endswith(".antt"):
+            new = re.sub(r"\b(isIn|isVersion)\b", lambda m: WORDS[m.group(1)], new)
         if not path.endswith(".md"):
             mark = "//" if path.endswith(".rt") else "--"
             new = "".join(TACTIC.sub("grounded", l[: (l + mark).index(mark)]) + l[(l + mark).index(mark) :] for l in new.splitlines(keepends=True))
