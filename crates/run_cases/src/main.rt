@@ -1,7 +1,7 @@
 // Runs the cases of cases.txt and prints one answer a line, in the words of the conformance kit; `no case` if there is none.
 #![tactic(auto)]
 
-ghost use Rattle.std.specs.Prelude.{◌≤◌, length};
+ghost use Rattle.std.specs.Prelude.{◌≤◌, length, IfOk};
 
 use annotator::{CheckAnswer, ReadAnswer};
 use form_first_n::Four;
@@ -9,6 +9,11 @@ use graph::Graph;
 use order_compare::Verdict;
 use record_rules::{Reading, Refusal};
 use record_text::TextAnswer;
+use std::io::{BufReader, BufWriter, Read, Write};
+use std::{fs, io};
+
+// How many cases are run after the first.
+const MOST: usize = 100000;
 
 fn least(a: usize, b: usize) -> usize
     ensures { result ≤ b }
@@ -16,326 +21,273 @@ fn least(a: usize, b: usize) -> usize
     if a < b { a } else { b }
 }
 
-fn wide(x: u8) -> u64 {
-    x as u64
-}
-
-fn wide_row(x: u32) -> u64 {
-    x as u64
-}
-
-fn say(text: &[u8]) {
-    io::write_all(1, text);
-}
-
-fn say_number(n: usize) {
-    say(b" ");
-    io::print_decimal(1, n as u64);
-}
-
-fn say_refusal(r: Refusal) {
-    say(b"refused");
-    say_number(r.number as usize);
-    say_number(r.place);
-    say(b"\n");
+fn say_refusal<W: Write>(out: &mut W, r: Refusal) -> io::Result<()> {
+    writeln!(out, "refused {} {}", r.number, r.place)
 }
 
 // Refusal 13, whose place is 0.
-fn say_four(q: Four) {
-    say(b"refused 13 0");
-    say_number(q.a);
-    say_number(q.b);
-    say_number(q.c);
-    say_number(q.d);
-    say(b"\n");
+fn say_four<W: Write>(out: &mut W, q: Four) -> io::Result<()> {
+    writeln!(out, "refused 13 0 {} {} {} {}", q.a, q.b, q.c, q.d)
 }
 
 // The bytes in hexadecimal.
-fn say_hex(bytes: &[u8]) {
-    let mut i: usize = 0;
-    while i < bytes.len() {
-        io::print_hex(1, wide(bytes[i]), 2);
-        i += 1;
+fn say_hex<W: Write>(out: &mut W, bytes: &[u8]) -> io::Result<()> {
+    for b in bytes {
+        write!(out, "{b:02x}")?;
     }
+    Ok(())
 }
 
 // The bytes in hexadecimal, `-` where there are none.
-fn say_bytes(bytes: &[u8]) {
+fn say_bytes<W: Write>(out: &mut W, bytes: &[u8]) -> io::Result<()> {
     if bytes.len() == 0 {
-        say(b"-");
+        write!(out, "-")?;
     }
-    say_hex(bytes);
+    say_hex(out, bytes)
 }
 
-fn say_text(bytes: &[u8]) {
-    say(b"ok");
-    say_number(bytes.len());
-    say(b" ");
-    say_bytes(bytes);
-    say(b"\n");
+fn say_text<W: Write>(out: &mut W, bytes: &[u8]) -> io::Result<()> {
+    let len = bytes.len();
+    write!(out, "ok {len} ")?;
+    say_bytes(out, bytes)?;
+    writeln!(out)
 }
 
-fn run_read(bytes: &[u8]) {
+fn run_read<W: Write>(out: &mut W, bytes: &[u8]) -> io::Result<()> {
     match annotator::read(bytes) {
-        ReadAnswer::Accepted(_) => say(b"ok\n"),
-        ReadAnswer::Refused(r) => say_refusal(r),
+        ReadAnswer::Accepted(_) => writeln!(out, "ok"),
+        ReadAnswer::Refused(r) => say_refusal(out, r),
     }
 }
 
-fn say_graph(g: Graph) {
-    say(b"ok");
+fn say_graph<W: Write>(out: &mut W, g: Graph) -> io::Result<()> {
     let n = least(g.n, Graph::MAX);
-    say_number(n);
+    write!(out, "ok {n}")?;
     let rows = g.rows;
-    let mut i: usize = 0;
-    while i < n {
-        say(b" ");
-        io::print_hex(1, wide_row(rows[i]), 8);
-        i += 1;
+    for row in &rows[..n] {
+        write!(out, " {row:08x}")?;
     }
-    say(b"\n");
+    writeln!(out)
 }
 
-fn run_order(bytes: &[u8]) {
+fn run_order<W: Write>(out: &mut W, bytes: &[u8]) -> io::Result<()> {
     let answer = annotator::order(bytes);
     let reading = answer.reading;
     match reading {
         ReadAnswer::Accepted(_) => {
             let g = answer.graph;
-            say_graph(g);
+            say_graph(out, g)
         }
-        ReadAnswer::Refused(r) => say_refusal(r),
+        ReadAnswer::Refused(r) => say_refusal(out, r),
     }
 }
 
-fn say_count(k: usize) {
-    say(b"ok");
-    say_number(k);
-    say(b"\n");
-}
-
-fn run_passes(bytes: &[u8]) {
+fn run_passes<W: Write>(out: &mut W, bytes: &[u8]) -> io::Result<()> {
     let answer = annotator::order(bytes);
     let reading = answer.reading;
     match reading {
-        ReadAnswer::Accepted(_) => say_count(answer.passes as usize),
-        ReadAnswer::Refused(r) => say_refusal(r),
+        ReadAnswer::Accepted(_) => writeln!(out, "ok {}", answer.passes),
+        ReadAnswer::Refused(r) => say_refusal(out, r),
     }
 }
 
-// The first k bytes of a buffer, or all where it has fewer.
-fn say_front(out: &[u8], k: usize) {
-    if k <= out.len() {
-        say_text(&out[..k]);
+// The first k bytes of a buffer, or nothing where it has fewer.
+fn say_front<W: Write>(out: &mut W, room: &[u8], k: usize) -> io::Result<()> {
+    if k <= room.len() {
+        say_text(out, &room[..k])?;
+    }
+    Ok(())
+}
+
+fn run_mel<W: Write>(out: &mut W, bytes: &[u8], room: &mut [u8]) -> io::Result<()> {
+    match annotator::mel(bytes, room) {
+        mel::MelAnswer::Done(k) => say_front(out, room, k),
+        mel::MelAnswer::Refused(r) => say_refusal(out, r),
     }
 }
 
-fn run_mel(bytes: &[u8], out: &mut [u8]) {
-    match annotator::mel(bytes, out) {
-        mel::MelAnswer::Done(k) => say_front(out, k),
-        mel::MelAnswer::Refused(r) => say_refusal(r),
+fn run_form<W: Write>(out: &mut W, bytes: &[u8], room: &mut [u8]) -> io::Result<()> {
+    match annotator::form(bytes, room) {
+        form::FormAnswer::Done(k) => say_front(out, room, k),
+        form::FormAnswer::NoForm(q) => say_four(out, q),
+        form::FormAnswer::Refused(r) => say_refusal(out, r),
     }
 }
 
-fn run_form(bytes: &[u8], out: &mut [u8]) {
-    match annotator::form(bytes, out) {
-        form::FormAnswer::Done(k) => say_front(out, k),
-        form::FormAnswer::NoForm(q) => say_four(q),
-        form::FormAnswer::Refused(r) => say_refusal(r),
-    }
-}
-
-fn run_length(bytes: &[u8]) {
+fn run_length<W: Write>(out: &mut W, bytes: &[u8]) -> io::Result<()> {
     match annotator::form_length(bytes) {
-        form::FormAnswer::Done(k) => say_count(k),
-        form::FormAnswer::NoForm(q) => say_four(q),
-        form::FormAnswer::Refused(r) => say_refusal(r),
+        form::FormAnswer::Done(k) => writeln!(out, "ok {k}"),
+        form::FormAnswer::NoForm(q) => say_four(out, q),
+        form::FormAnswer::Refused(r) => say_refusal(out, r),
     }
 }
 
-fn run_text(bytes: &[u8], goal: u32) {
+fn run_text<W: Write>(out: &mut W, bytes: &[u8], goal: u32) -> io::Result<()> {
     match annotator::find_text(bytes, goal) {
         TextAnswer::At(s) => {
             let part = annotator::goal_text(bytes, goal);
-            say(b"ok");
-            say_number(s.place);
-            say_number(part.len());
-            say(b" ");
-            say_bytes(part);
-            say(b"\n");
+            let len = part.len();
+            write!(out, "ok {} {len} ", s.place)?;
+            say_bytes(out, part)?;
+            writeln!(out)
         }
-        TextAnswer::NoText(r) => say_refusal(r),
+        TextAnswer::NoText(r) => say_refusal(out, r),
     }
 }
 
-fn run_check(bytes: &[u8], text: &[u8]) {
+fn run_check<W: Write>(out: &mut W, bytes: &[u8], text: &[u8]) -> io::Result<()> {
     match annotator::check(bytes, text) {
         CheckAnswer::Verdict(v) => match v {
-            Verdict::Same => say(b"same\n"),
-            Verdict::Differs(p) => {
-                say(b"differs");
-                say_number(p.i);
-                say_number(p.j);
-                say(b"\n");
-            }
+            Verdict::Same => writeln!(out, "same"),
+            Verdict::Differs(p) => writeln!(out, "differs {} {}", p.i, p.j),
         },
-        CheckAnswer::Rejected(r) => say_refusal(r),
+        CheckAnswer::Rejected(r) => say_refusal(out, r),
     }
 }
 
 // The waits of a record before closure.
-fn run_waits(bytes: &[u8]) {
+fn run_waits<W: Write>(out: &mut W, bytes: &[u8]) -> io::Result<()> {
     match record::read(bytes) {
         Reading::Fine => {
             let c = clause::decode(bytes);
-            say_graph(order::waits_of(c.n, &c.sets, &c.grounds, &c.listed));
+            say_graph(out, order::waits_of(c.n, &c.sets, &c.grounds, &c.listed))
         }
-        Reading::Refused(r) => say_refusal(r),
+        Reading::Refused(r) => say_refusal(out, r),
     }
 }
 
 // A part of an array, where it lies inside.
-fn say_part(bytes: &[u8], from: usize, end: usize) {
+fn say_part<W: Write>(out: &mut W, bytes: &[u8], from: usize, end: usize) -> io::Result<()> {
     if from <= end {
         if end <= bytes.len() {
-            say_hex(&bytes[from..end]);
+            say_hex(out, &bytes[from..end])?;
         }
     }
+    Ok(())
 }
 
 // The sheet, in its three parts.
-fn run_sheet(bytes: &[u8]) {
+fn run_sheet<W: Write>(out: &mut W, bytes: &[u8]) -> io::Result<()> {
     let mut lines = [0u8; sheet_text::LINES];
     let mut text = [0u8; sheet_text::MEL_ROOM];
     let parts = sheet_text::write(bytes, &mut lines, &mut text);
-    say(b"ok ");
-    say_part(&lines, 0, parts.top);
-    say_part(&text, 0, parts.mel);
-    say_part(&lines, parts.top, parts.end);
-    say(b"\n");
+    write!(out, "ok ")?;
+    say_part(out, &lines, 0, parts.top)?;
+    say_part(out, &text, 0, parts.mel)?;
+    say_part(out, &lines, parts.top, parts.end)?;
+    writeln!(out)
 }
 
 // A case that lends a buffer.
-fn run_writer(line: &[u8], bytes: &[u8], room: usize) {
+fn run_writer<W: Write>(out: &mut W, line: &[u8], bytes: &[u8], room: usize) -> io::Result<()> {
     let mut space = [0u8; 196608];
     let n = least(room, 196608);
-    let out = &mut space[..n];
-    if check::same(case_lines::field(line, 0), b"mel") {
-        run_mel(bytes, out);
-    } else {
-        run_form(bytes, out);
+    let lent = &mut space[..n];
+    match case_lines::field(line, 0) {
+        b"mel" => run_mel(out, bytes, lent),
+        _ => run_form(out, bytes, lent),
     }
 }
 
 // A case with a second text.
-fn run_second(line: &[u8], bytes: &[u8]) {
+fn run_second<W: Write>(out: &mut W, line: &[u8], bytes: &[u8]) -> io::Result<()> {
     let mut text = [0u8; 1024];
     let n = least(
         case_lines::bytes(case_lines::field(line, 3), &mut text),
         1024,
     );
-    run_check(bytes, &text[..n]);
+    run_check(out, bytes, &text[..n])
 }
 
 // A case of the record alone, or with a number behind it.
-fn run_first(line: &[u8], bytes: &[u8], number: u32) {
-    let operation = case_lines::field(line, 0);
-    if check::same(operation, b"read") {
-        run_read(bytes);
-    } else if check::same(operation, b"waits") {
-        run_waits(bytes);
-    } else if check::same(operation, b"order") {
-        run_order(bytes);
-    } else if check::same(operation, b"passes") {
-        run_passes(bytes);
-    } else if check::same(operation, b"length") {
-        run_length(bytes);
-    } else if check::same(operation, b"text") {
-        run_text(bytes, number);
-    } else if check::same(operation, b"sheet") {
-        run_sheet(bytes);
+fn run_first<W: Write>(out: &mut W, line: &[u8], bytes: &[u8], number: u32) -> io::Result<()> {
+    match case_lines::field(line, 0) {
+        b"read" => run_read(out, bytes),
+        b"waits" => run_waits(out, bytes),
+        b"order" => run_order(out, bytes),
+        b"passes" => run_passes(out, bytes),
+        b"length" => run_length(out, bytes),
+        b"text" => run_text(out, bytes, number),
+        b"sheet" => run_sheet(out, bytes),
+        _ => Ok(()),
     }
 }
 
 // Runs the operation of a case on its record.
-fn run_operation(line: &[u8], bytes: &[u8]) {
-    let operation = case_lines::field(line, 0);
+fn run_operation<W: Write>(out: &mut W, line: &[u8], bytes: &[u8]) -> io::Result<()> {
     let number = case_lines::number(case_lines::field(line, 3));
-    if check::same(operation, b"check") {
-        run_second(line, bytes);
-    } else if check::same(operation, b"mel") {
-        run_writer(line, bytes, number as usize);
-    } else if check::same(operation, b"form") {
-        run_writer(line, bytes, number as usize);
-    } else {
-        run_first(line, bytes, number as u32);
+    match case_lines::field(line, 0) {
+        b"check" => run_second(out, line, bytes),
+        b"mel" => run_writer(out, line, bytes, number as usize),
+        b"form" => run_writer(out, line, bytes, number as usize),
+        _ => run_first(out, line, bytes, number as u32),
     }
 }
 
-fn run_case(line: &[u8]) {
+fn run_case<W: Write>(out: &mut W, line: &[u8]) -> io::Result<()> {
     let mut bytes = [0u8; sheet_text::INPUT];
     let n = least(
         case_lines::bytes(case_lines::field(line, 2), &mut bytes),
         sheet_text::INPUT,
     );
-    run_operation(line, &bytes[..n]);
+    run_operation(out, line, &bytes[..n])
 }
 
 // The next byte of a file, or a line feed at its end.
-fn next_byte(fd: i32) -> u8 {
+fn next_byte<R: Read>(file: &mut R) -> io::Result<u8> {
     let mut one = [0u8; 1];
-    let n = io::read_full(fd, &mut one);
-    if n == 0 { 10 } else { one[0] }
+    let n = file.read(&mut one)?;
+    Ok(if n == 0 { 10 } else { one[0] })
 }
 
 // Reads a line, without its line feed, and answers its length: 0 at the end of the file.
-fn read_line(fd: i32, line: &mut [u8]) -> usize
-    ensures { result ≤ length line.new }
+fn read_line<R: Read>(file: &mut R, line: &mut [u8]) -> io::Result<usize>
+    ensures { IfOk result (λ n. n ≤ length line.new) }
 {
-    let mut at: usize = 0;
-    while at < line.len() {
-        let b = next_byte(fd);
+    let len = line.len();
+    for at in 0..len {
+        let b = next_byte(file)?;
         if b == 10 {
-            return at;
+            return Ok(at);
         }
         line[at] = b;
-        at += 1;
     }
-    at
+    Ok(len)
 }
 
 // Runs the next case of a file; answers whether there was one.
-fn run_next(fd: i32) -> bool {
+fn run_next<R: Read, W: Write>(file: &mut R, out: &mut W) -> io::Result<bool> {
     let mut line = [0u8; 32768];
-    let n = read_line(fd, &mut line);
+    let n = read_line(file, &mut line)?;
     if n == 0 {
-        return false;
+        return Ok(false);
     }
-    run_case(&line[..n]);
-    true
+    run_case(out, &line[..n])?;
+    Ok(true)
 }
 
-// Runs the cases of a file after its first, up to its first empty line or its end.
-fn run_others(fd: i32) {
-    let mut left: usize = 100000;
-    while 0 < left {
-        if run_next(fd) {
-            left -= 1;
-        } else {
-            left = 0;
+// Runs the cases of a file after its first, up to its first empty line or its end, and no more than `MOST`.
+fn run_others<R: Read, W: Write>(file: &mut R, out: &mut W) -> io::Result<()> {
+    for _ in 0..MOST {
+        if !run_next(file, out)? {
+            break;
         }
     }
+    Ok(())
 }
 
 // Runs the cases of a file; says so if it has none.
-fn run_file(fd: i32) {
-    if run_next(fd) {
-        run_others(fd);
+fn run_file<R: Read, W: Write>(file: &mut R, out: &mut W) -> io::Result<()> {
+    if run_next(file, out)? {
+        run_others(file, out)
     } else {
-        say(b"no case\n");
+        writeln!(out, "no case")
     }
 }
 
-fn main() {
-    run_file(os::open_read(b"cases.txt"));
+fn main(rt: HostRuntime) -> io::Result<()> {
+    let mut file = BufReader::new(rt.alloc(), fs::open(&rt, "cases.txt")?)?;
+    let mut out = BufWriter::new(rt.alloc(), io::writer(&rt))?;
+    run_file(&mut file, &mut out)?;
+    out.flush()
 }
