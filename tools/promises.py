@@ -46,6 +46,10 @@ def difference(message):
         expected, other = short(m.group(1)), short(m.group(2))
         if expected and other and expected != other:
             return f"`{expected}` expected, `{other}` found"
+    # (rt cuts its line where it is long)
+    m = re.search(r"differ[^`]*where one has `([^`]*)`\s*\(expected\)", message)
+    if m and short(m.group(1)):
+        return f"`{short(m.group(1))}` expected"
     m = re.search(r"expected type `([^`]*)`,\s*but this has type `([^`]*)`", message)
     if m and short(m.group(1)) and short(m.group(2)):
         return f"`{short(m.group(1))}` expected, `{short(m.group(2))}` found"
