@@ -8,7 +8,7 @@ The answers of drafts.txt come from the paper's text (tools/paper_drafts.py), th
 of the other files from the hand-written one of rust/compare. The questions go to crates/run_cases/data/cases.txt, the answers, and nothing
 that the program itself printed, to crates/run_cases/stdout. Left out are the questions `unread`, which ask what a program leaves of its
 standard input: this program calls the library alone, and scripts/sheets.py asks the program `sheet`. Left out are also `start`, `tick` and
-`run`: a program in Rattle that lends a row of heads needs a proof of its own, so these are asked from Rust, by rust/kit.sh. Any other
+`run`: this program lends no row of heads, and these are asked from Rust, by rust/kit.sh. Any other
 question that passes the program's arrays is an error, but for a record that is refused at a place within them: the program has its first
 4,096 bytes, and a record of so many is never refused for being too short.
 """

@@ -12,6 +12,9 @@ import os
 import re
 import sys
 
+from kit_cases import about
+
+about(__doc__)
 ROOT = sys.argv[1] if len(sys.argv) > 1 else "."
 DECLARED = re.compile(
     r"^( *)((?:pub |abbrev |unfoldable )*)(data |record |ruleset )?([^\s:(){};,.λ]+)((?: [({][^\n]*[)}])?) : (?!Type)")
