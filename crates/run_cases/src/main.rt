@@ -9,7 +9,7 @@ use graph::Graph;
 use order_compare::Verdict;
 use record_rules::{Reading, Refusal};
 use record_text::TextAnswer;
-use std::io::{BufReader, BufWriter, Read, Write};
+use std::io::{Read, Write};
 use std::{fs, io};
 
 // How many cases are run after the first.
@@ -286,8 +286,6 @@ fn run_file<R: Read, W: Write>(file: &mut R, out: &mut W) -> io::Result<()> {
 }
 
 fn main(rt: HostRuntime) -> io::Result<()> {
-    let mut file = BufReader::new(rt.alloc(), fs::open(&rt, "cases.txt")?)?;
-    let mut out = BufWriter::new(rt.alloc(), io::writer(&rt))?;
-    run_file(&mut file, &mut out)?;
-    out.flush()
+    let mut file = fs::open(&rt, "cases.txt")?;
+    run_file(&mut file, &mut io::writer(&rt))
 }
