@@ -2,6 +2,7 @@
 --     refuses      each operation refuses with its own numbers and those of reading
 --     numbers      the number is 0 exactly if the call is accepted; 13 exactly with its four goals
 --     one_answer   one answer has an outcome
+use Rattle.std.specs.Prelude.{Result, Ok, Err}
 use mathlib.Core.Path.{◌≡◌, refl, sym, ap, ap₂, ◌∙◌}
 use mathlib.Core.Bool.{◌&&◌}
 use mathlib.Core.List.{List}
@@ -12,10 +13,8 @@ use native.Mathlib.Omega.{arith}
 use lib.Dec.{leb}
 use lib.ListN.{length}
 use Rattle.record_rules.specs.declared.Refusal.{Refusal}
-use Rattle.record_rules.specs.declared.Reading.{Reading}
-use Rattle.record_rules.specs.declared.Reading.TheVariants.{Fine, Refused as Unread}
-use Rattle.record_rules.specs.Reading.{reading}
-use Rattle.record_rules.specs.Outcome.{Outcome, refused, accepted, read_then, size_in}
+use Rattle.record_rules.specs.Reading.{reading, Reading}
+use Rattle.record_rules.specs.Outcome.{Outcome, refused, accepted, outcome, read_then, size_in}
 use Rattle.record_rules.proofs.Outcomes.{told_apart, one_value, one_refusal, number-zero, All, all-refused, all_read, all-only, all-next, all-size}
 use Rattle.record_fields.specs.Fields.{goal_count}
 use Rattle.record.proofs.WellFormed.{fine_well_formed}
@@ -28,27 +27,19 @@ use Rattle.expression_grammar.specs.Numbers.{misuse}
 use Rattle.expression_grammar.specs.TextRules.{expression_limit, open_limit, numbered, decided, read_text}
 use Rattle.expression_grammar.specs.Check.{same, checked}
 use Rattle.order_compare.specs.declared.Pair.{Pair}
-use Rattle.order_compare.specs.declared.Verdict as Verdicts
+use Rattle.order_compare.specs.declared.Verdict.{Verdict}
 use Rattle.order_compare.specs.declared.Verdict.TheVariants.{Same, Differs}
 use Rattle.order_compare.specs.Verdicts.{verdict_of}
 use Rattle.form_first_n.specs.declared.Four.{Four as Goals}
 use Rattle.form_first_n.specs.FirstN.{four}
 use Rattle.form.specs.Form as F
-use Rattle.form.specs.declared.FormAnswer as Forms
-use Rattle.form.specs.declared.FormAnswer.TheVariants as W
+use Rattle.form.specs.declared.FormError.{FormError}
+use Rattle.form.specs.declared.FormError.TheVariants.{NoForm, Refused}
 use Rattle.form.proofs.Outcomes.{form-refused, shown-refused, shown-fine}
 use Rattle.form.proofs.Theorems.{demand, found-thirteen}
 use Rattle.mel.specs.Annotation as M
-use Rattle.mel.specs.declared.MelAnswer as Mels
-use Rattle.mel.specs.declared.MelAnswer.TheVariants as T
-use Rattle.annotator.specs.declared.ReadAnswer.{ReadAnswer}
-use Rattle.annotator.specs.declared.ReadAnswer.TheVariants.{Accepted as Count, Refused}
-use Rattle.record_text.specs.declared.TextAnswer.{TextAnswer}
-use Rattle.record_text.specs.declared.TextAnswer.TheVariants.{At, NoText}
-use Rattle.annotator.specs.declared.CheckAnswer.{CheckAnswer}
-use Rattle.annotator.specs.declared.CheckAnswer.TheVariants.{Verdict, Rejected}
-use Rattle.record_text.specs.Texts.{goal_text, text_outcome, no_span}
-use Rattle.annotator.specs.Answers.{read, read_outcome, passes, check, check_outcome}
+use Rattle.record_text.specs.Texts.{goal_text, no_span}
+use Rattle.annotator.specs.Answers.{read, passes, check, check_outcome}
 use Rattle.record.specs.Limits.{OfReading}
 use Rattle.annotator.specs.Cases.{OfText, OfCheck, OfForm, OfLength, OfMel, Refuses, Numbers, OneAnswer}
 
@@ -156,12 +147,12 @@ module _ (b : List ℕ) where
   thirteen buf = go (reading b) refl
     where
       go : (s : Reading) → reading b ≡ s → (F.form_answer b buf ≡ refused 13 0) ↔ ((q : Four) × (F.shown b ≡ some q))
-      go Fine e =
+      go (Ok _) e =
           let w = fine_well_formed b e in (
             λ h. let (q, n) = (demand b w).without buf h in (q, n.shows),
             λ (q, h). found-thirteen b w buf q (sym (shown-fine b e) ∙ h),
           )
-      go (Unread r) e = (
+      go (Err r) e = (
         λ h. absurd (reading-apart r.number (refusal_number b r e) (one_refusal (sym (ap (λ (o : Outcome (List ℕ)). size_in o buf) (form-refused b r e)) ∙ h)).0),
         λ (q, h). absurd (let k = sym (shown-refused b r e) ∙ h in let z : ◌≡◌ {A = ℕ} 0 1 = cc in omega arith),
       )
@@ -186,7 +177,7 @@ refusal_is r u e = ap₂ (λ (k p : ℕ). made k p) (one_refusal e).0 (one_refus
     made : ℕ → ℕ → Refusal
     made k p = record { number = k; place = p }
 
-verdict_is : (v u : Verdicts.Verdict) → verdict_of v ≡ verdict_of u → v ≡ u
+verdict_is : (v u : Verdict) → verdict_of v ≡ verdict_of u → v ≡ u
 verdict_is Same Same e = refl
 verdict_is Same (Differs p) e = absurd (let z : ◌≡◌ {A = ℕ} 0 1 = cc in omega arith)
 verdict_is (Differs p) Same e = absurd (let z : ◌≡◌ {A = ℕ} 0 1 = cc in omega arith)
@@ -198,29 +189,17 @@ verdict_is (Differs p) (Differs q) e =
     made : ℕ → ℕ → Pair
     made i j = record { i = i; j = j }
 
-read_one : (a c : ReadAnswer) → read_outcome a ≡ read_outcome c → a ≡ c
-read_one (Count n) (Count m) e = ap Count (one_value e)
-read_one (Count n) (Refused r) e = absurd (told_apart (sym e))
-read_one (Refused r) (Count n) e = absurd (told_apart e)
-read_one (Refused r) (Refused u) e = ap Refused (refusal_is r u e)
+outcome_one : {A : Type 0} (a c : Result A Refusal) → outcome a ≡ outcome c → a ≡ c
+outcome_one (Ok x) (Ok y) e = ap Ok (one_value e)
+outcome_one (Ok x) (Err r) e = absurd (told_apart (sym e))
+outcome_one (Err r) (Ok x) e = absurd (told_apart e)
+outcome_one (Err r) (Err u) e = ap Err (refusal_is r u e)
 
-text-one : (a c : TextAnswer) → text_outcome a ≡ text_outcome c → a ≡ c
-text-one (At s) (At t) e = ap At (one_value e)
-text-one (At s) (NoText r) e = absurd (told_apart (sym e))
-text-one (NoText r) (At s) e = absurd (told_apart e)
-text-one (NoText r) (NoText u) e = ap NoText (refusal_is r u e)
-
-check-one : (a c : CheckAnswer) → check_outcome a ≡ check_outcome c → a ≡ c
-check-one (Verdict v) (Verdict u) e = ap Verdict (verdict_is v u (one_value e))
-check-one (Verdict v) (Rejected r) e = absurd (told_apart (sym e))
-check-one (Rejected r) (Verdict v) e = absurd (told_apart e)
-check-one (Rejected r) (Rejected u) e = ap Rejected (refusal_is r u e)
-
-mel-one : (a c : Mels.MelAnswer) → M.outcome a ≡ M.outcome c → a ≡ c
-mel-one (T.Done n) (T.Done m) e = ap T.Done (one_value e)
-mel-one (T.Done n) (T.Refused r) e = absurd (told_apart (sym e))
-mel-one (T.Refused r) (T.Done n) e = absurd (told_apart e)
-mel-one (T.Refused r) (T.Refused u) e = ap T.Refused (refusal_is r u e)
+check-one : (a c : Result Verdict Refusal) → check_outcome a ≡ check_outcome c → a ≡ c
+check-one (Ok v) (Ok u) e = ap Ok (verdict_is v u (one_value e))
+check-one (Ok v) (Err r) e = absurd (told_apart (sym e))
+check-one (Err r) (Ok v) e = absurd (told_apart e)
+check-one (Err r) (Err u) e = ap Err (refusal_is r u e)
 
 four_is : (q r : Goals) → ◌≡◌ {A = Option Four} (some (four q)) (some (four r)) → q ≡ r
 four_is q r e = let f : four q ≡ four r = cc in ap back f
@@ -228,16 +207,16 @@ four_is q r e = let f : four q ≡ four r = cc in ap back f
     back : Four → Goals
     back x = record { a = x.a; b = x.b; c = x.c; d = x.d }
 
-form-one : (a c : Forms.FormAnswer) → F.outcome a ≡ F.outcome c → F.goals a ≡ F.goals c → a ≡ c
-form-one (W.Done n) (W.Done m) e g = ap W.Done (one_value e)
-form-one (W.Done n) (W.NoForm q) e g = absurd (told_apart (sym e))
-form-one (W.Done n) (W.Refused r) e g = absurd (told_apart (sym e))
-form-one (W.NoForm q) (W.Done n) e g = absurd (told_apart e)
-form-one (W.NoForm q) (W.NoForm r) e g = ap W.NoForm (four_is q r g)
-form-one (W.NoForm q) (W.Refused r) e g = absurd (let z : ◌≡◌ {A = ℕ} 0 1 = cc in omega arith)
-form-one (W.Refused r) (W.Done n) e g = absurd (told_apart e)
-form-one (W.Refused r) (W.NoForm q) e g = absurd (let z : ◌≡◌ {A = ℕ} 0 1 = cc in omega arith)
-form-one (W.Refused r) (W.Refused u) e g = ap W.Refused (refusal_is r u e)
+form-one : (a c : Result ℕ FormError) → F.outcome a ≡ F.outcome c → F.goals a ≡ F.goals c → a ≡ c
+form-one (Ok n) (Ok m) e g = ap Ok (one_value e)
+form-one (Ok n) (Err (NoForm q)) e g = absurd (told_apart (sym e))
+form-one (Ok n) (Err (Refused r)) e g = absurd (told_apart (sym e))
+form-one (Err (NoForm q)) (Ok n) e g = absurd (told_apart e)
+form-one (Err (NoForm q)) (Err (NoForm r)) e g = ap (λ x. Err (NoForm x)) (four_is q r g)
+form-one (Err (NoForm q)) (Err (Refused r)) e g = absurd (let z : ◌≡◌ {A = ℕ} 0 1 = cc in omega arith)
+form-one (Err (Refused r)) (Ok n) e g = absurd (told_apart e)
+form-one (Err (Refused r)) (Err (NoForm q)) e g = absurd (let z : ◌≡◌ {A = ℕ} 0 1 = cc in omega arith)
+form-one (Err (Refused r)) (Err (Refused u)) e g = ap (λ x. Err (Refused x)) (refusal_is r u e)
 
 pub one_answer : OneAnswer
-one_answer = record { of_read = read_one; of_text = text-one; of_check = check-one; of_form = form-one; of_mel = mel-one }
+one_answer = record { of_read = outcome_one; of_text = outcome_one; of_check = check-one; of_form = form-one; of_mel = outcome_one }

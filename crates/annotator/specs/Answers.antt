@@ -1,27 +1,21 @@
--- What the operations of 01 answer, each as an outcome of the lent bytes (record_rules/specs/Outcome), and the outcome that each case of a program's answer is.
+-- What the operations of 01 answer, each as an outcome of the lent bytes (record_rules/specs/Outcome), and the outcome that the check's answer is.
 -- Writing the form and its length have theirs in the crate `form`, writing MEL in `mel`, a goal's text in `record_text`.
-use Rattle.std.specs.Prelude.{List, ℕ}
+use Rattle.std.specs.Prelude.{List, ℕ, Result, Ok, Err}
 use Rattle.graph.specs.Graph.{edgeless}
 use Rattle.graph.specs.declared.Graph.{Graph}
 use Rattle.record_fields.specs.Fields.{goal_count}
+use Rattle.record_rules.specs.declared.Refusal.{Refusal}
 use Rattle.record_rules.specs.Outcome.{Outcome, refused, accepted, read_then, values}
 use Rattle.order.specs.Order
 use Rattle.order.specs.Order.{before}
 use Rattle.expression_grammar.specs.Check.{checked}
 use Rattle.expression_grammar.specs.Check
+use Rattle.order_compare.specs.declared.Verdict.{Verdict}
 use Rattle.order_compare.specs.Verdicts.{verdict_of}
-use Rattle.annotator.specs.declared.ReadAnswer.{ReadAnswer}
-use Rattle.annotator.specs.declared.ReadAnswer.TheVariants.{Accepted, Refused}
-use Rattle.annotator.specs.declared.CheckAnswer.{CheckAnswer}
-use Rattle.annotator.specs.declared.CheckAnswer.TheVariants.{Verdict, Rejected}
 
 -- ---- Reading: the goal count.
 unfoldable pub read : List ℕ → Outcome ℕ
 read b = read_then b (accepted (goal_count b))
-
-abbrev pub read_outcome : ReadAnswer → Outcome ℕ
-read_outcome (Accepted n) = accepted n
-read_outcome (Refused r) = refused r.number r.place
 
 -- ---- The order: beside the reading's answer the closed graph; of a refused record the graph without goals.
 unfoldable pub order_graph : List ℕ → Graph
@@ -39,6 +33,6 @@ order_passes b = (values 0 (passes b)).value
 unfoldable pub check : List ℕ → List ℕ → Outcome Check.Verdict
 check b t = read_then b (checked (goal_count b) (before b) t)
 
-abbrev pub check_outcome : CheckAnswer → Outcome Check.Verdict
-check_outcome (Verdict v) = accepted (verdict_of v)
-check_outcome (Rejected r) = refused r.number r.place
+abbrev pub check_outcome : Result Verdict Refusal → Outcome Check.Verdict
+check_outcome (Ok v) = accepted (verdict_of v)
+check_outcome (Err r) = refused r.number r.place

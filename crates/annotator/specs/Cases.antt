@@ -1,19 +1,18 @@
 -- What an answer tells: the numbers with which each operation refuses, and that one answer has the outcome promised.
-use Rattle.std.specs.Prelude.{◌≡◌, List, ◌⊎◌, ◌↔◌, ℕ, ◌≤◌}
+use Rattle.std.specs.Prelude.{◌≡◌, List, ◌⊎◌, ◌↔◌, ℕ, ◌≤◌, Result}
 use Rattle.std.proofs.Math.Option.{some}
-use Rattle.record_rules.specs.Outcome.{refused, values, Accepted}
+use Rattle.record_rules.specs.declared.Refusal.{Refusal}
+use Rattle.record_rules.specs.Outcome.{refused, values, Accepted, outcome}
 use Rattle.expression.specs.Search.{Four}
 use Rattle.expression_grammar.specs.Check.{same}
 use Rattle.record.specs.Limits.{OfReading}
 use Rattle.form.specs.Form as F
-use Rattle.form.specs.declared.FormAnswer.{FormAnswer}
+use Rattle.form.specs.declared.FormError.{FormError}
 use Rattle.mel.specs.Annotation as M
-use Rattle.mel.specs.declared.MelAnswer.{MelAnswer}
-use Rattle.annotator.specs.declared.ReadAnswer.{ReadAnswer}
-use Rattle.record_text.specs.declared.TextAnswer.{TextAnswer}
-use Rattle.annotator.specs.declared.CheckAnswer.{CheckAnswer}
-use Rattle.record_text.specs.Texts.{goal_text, text_outcome, no_span}
-use Rattle.annotator.specs.Answers.{read, read_outcome, passes, check, check_outcome}
+use Rattle.order_compare.specs.declared.Verdict.{Verdict}
+use Rattle.record_text.specs.declared.Span.{Span}
+use Rattle.record_text.specs.Texts.{goal_text, no_span}
+use Rattle.annotator.specs.Answers.{read, passes, check, check_outcome}
 
 -- ---- 01, "What each operation turns down": the refusals of reading, which starts every operation, and those of its own.
 abbrev pub OfText : ℕ → Type 0
@@ -53,8 +52,8 @@ pub record Numbers (b : List ℕ) : Type 0 where
 
 -- ---- One answer has an outcome.
 pub record OneAnswer : Type 0 where
-  pub of_read : (a c : ReadAnswer) → read_outcome a ≡ read_outcome c → a ≡ c
-  pub of_text : (a c : TextAnswer) → text_outcome a ≡ text_outcome c → a ≡ c
-  pub of_check : (a c : CheckAnswer) → check_outcome a ≡ check_outcome c → a ≡ c
-  pub of_form : (a c : FormAnswer) → F.outcome a ≡ F.outcome c → F.goals a ≡ F.goals c → a ≡ c
-  pub of_mel : (a c : MelAnswer) → M.outcome a ≡ M.outcome c → a ≡ c
+  pub of_read : (a c : Result ℕ Refusal) → outcome a ≡ outcome c → a ≡ c
+  pub of_text : (a c : Result Span Refusal) → outcome a ≡ outcome c → a ≡ c
+  pub of_check : (a c : Result Verdict Refusal) → check_outcome a ≡ check_outcome c → a ≡ c
+  pub of_form : (a c : Result ℕ FormError) → F.outcome a ≡ F.outcome c → F.goals a ≡ F.goals c → a ≡ c
+  pub of_mel : (a c : Result ℕ Refusal) → outcome a ≡ outcome c → a ≡ c

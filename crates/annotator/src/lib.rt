@@ -2,8 +2,8 @@
 //
 // `bytes` is the record. It and `text` are lent by `&` and stay as they were; `out` is lent by `&mut`. Reading the record starts every operation, so
 // its refusals, 1 to 11, 18 and 19 ("reading" below), come first, then those of its own in the sequence given. A refusal has its number and place (the
-// README's table), 13 also its four goals, and changes no lent byte. Each answer is promised as an outcome, refused or accepted (record_rules: Outcome), and
-// one answer has it (specs/Cases.antt).
+// README's table), 13 also its four goals, and changes no lent byte: it is the `Err` of an answer. Each answer is promised as an outcome, refused or
+// accepted (record_rules: Outcome), and one answer has it (specs/Cases.antt).
 //
 // operation               accepted, it answers                                                 refuses              promised by
 // ----------------------  -------------------------------------------------------------------  -------------------  -----------------------------------------------
@@ -26,83 +26,64 @@ ghost use Rattle.std.specs.Prelude.{◌≡◌};
 ghost use Rattle.order.specs.Order.{before};
 ghost use Rattle.expression_grammar.specs.Check.{checked};
 ghost use Rattle.record_fields.specs.Fields as F;
-ghost use Rattle.record.specs.WellFormed.{WellFormed};
+ghost use Rattle.record_rules.specs.Outcome.{outcome};
 ghost use Rattle.form.specs.Form as P;
 ghost use Rattle.mel.specs.Annotation as M;
 ghost use Rattle.record_text.specs.Texts as T;
 ghost use Rattle.record_text.specs.Part.{PartAt};
 ghost use Rattle.annotator.specs.Answers as W;
 
+use form::FormError;
 use graph::Graph;
 use order_compare::Verdict;
-use record_rules::{Reading, Refusal};
-use record_text::TextAnswer;
+use record::Record;
+use record_rules::Refusal;
+use record_text::Span;
 
-// Reading: the goal count, or a refusal.
-#[derive(Drop)]
-pub enum ReadAnswer {
-    Accepted(usize),
-    Refused(Refusal),
-}
-
-// The order: beside the reading's answer the closed graph and the number of passes that closing it took; of a refused record the graph without goals, and 0.
+// The order: beside the reading's answer the closed graph and the number of passes that closing it took.
+// Beside, and not in the answer: `graph_value` and `passes_value` say of a refused record too what they hold, the graph without goals and 0.
 #[derive(Drop)]
 pub struct OrderAnswer {
-    pub reading: ReadAnswer,
+    pub reading: Result<usize, Refusal>,
     pub graph: Graph,
     pub passes: u32,
 }
 
-// The check of an expression: a verdict, or a refusal.
-#[derive(Drop)]
-pub enum CheckAnswer {
-    Verdict(Verdict),
-    Rejected(Refusal),
-}
-
-// Reads a record.
-pub fn read(bytes: &[u8]) -> ReadAnswer
-    ensures { W.read_outcome result ≡ W.read bytes.now }
+// Reads a record: the goal count.
+#[tactic(auto, using(record_rules::proofs::Outcomes::read_err, record_rules::proofs::Outcomes::read_ok), unfolding(crate::specs::Answers::read))]
+pub fn read(bytes: &[u8]) -> Result<usize, Refusal>
+    ensures { outcome result ≡ W.read bytes.now }
 {
-    match record::read(bytes) {
-        Reading::Fine => ReadAnswer::Accepted(record_fields::goal_count(bytes)),
-        Reading::Refused(r) => ReadAnswer::Refused(r),
-    }
+    record::read(bytes)?;
+    Ok(record_fields::goal_count(bytes))
 }
 
 // The order of a record's goals.
 pub fn order(bytes: &[u8]) -> OrderAnswer
-    ensures reading_value { W.read_outcome result.reading ≡ W.read bytes.now }
+    ensures reading_value { outcome result.reading ≡ W.read bytes.now }
     ensures graph_value { result.graph ≡ W.order_graph bytes.now }
     ensures passes_value { result.passes ≡ W.order_passes bytes.now }
 {
-    match record::read(bytes) {
-        Reading::Fine => {
-            let c = clause::decode(bytes);
-            let closed = order::closure_of(c.n, &c.sets, &c.grounds, &c.listed);
-            let reading = ReadAnswer::Accepted(c.n);
-            let graph = closed.graph;
-            let passes = closed.passes;
+    match record::accept(bytes) {
+        Ok(given) => {
+            let c = clause::decode(given);
+            let closed = order::closure_of(&c);
             OrderAnswer {
-                reading,
-                graph,
-                passes,
+                reading: Ok(c.n),
+                graph: closed.graph,
+                passes: closed.passes,
             }
         }
-        Reading::Refused(r) => {
-            let reading = ReadAnswer::Refused(r);
-            let graph = Graph::empty(0);
-            OrderAnswer {
-                reading,
-                graph,
-                passes: 0,
-            }
-        }
+        Err(r) => OrderAnswer {
+            reading: Err(r),
+            graph: Graph::empty(0),
+            passes: 0,
+        },
     }
 }
 
 // Writes the house form of a record's order into `out`: its length, or a refusal, 13 with its four goals, that leaves `out` as it was.
-pub fn form(bytes: &[u8], out: &mut [u8]) -> form::FormAnswer
+pub fn form(bytes: &[u8], out: &mut [u8]) -> Result<usize, FormError>
     ensures result_value { P.outcome result ≡ P.form_answer bytes.now out.old }
     ensures result_value_2 { P.goals result ≡ P.shown bytes.now }
     ensures out_after { out.new ≡ P.form_buffer bytes.now out.old }
@@ -111,7 +92,7 @@ pub fn form(bytes: &[u8], out: &mut [u8]) -> form::FormAnswer
 }
 
 // The length of a record's form, or a refusal, 13 with its four goals. A buffer of that length suffices for the form, and one byte less never does.
-pub fn form_length(bytes: &[u8]) -> form::FormAnswer
+pub fn form_length(bytes: &[u8]) -> Result<usize, FormError>
     ensures result_value { P.outcome result ≡ P.form_length bytes.now }
     ensures result_value_2 { P.goals result ≡ P.shown bytes.now }
 {
@@ -119,16 +100,16 @@ pub fn form_length(bytes: &[u8]) -> form::FormAnswer
 }
 
 // Writes the MEL annotation of a record into `out`: its length, or a refusal that leaves `out` as it was.
-pub fn mel(bytes: &[u8], out: &mut [u8]) -> mel::MelAnswer
-    ensures result_value { M.outcome result ≡ M.mel_answer bytes.now out.old }
+pub fn mel(bytes: &[u8], out: &mut [u8]) -> Result<usize, Refusal>
+    ensures result_value { outcome result ≡ M.mel_answer bytes.now out.old }
     ensures out_after { out.new ≡ M.mel_buffer bytes.now out.old }
 {
     mel::write(bytes, out)
 }
 
 // Where the text of a goal stands, or why there is none.
-pub fn find_text(bytes: &[u8], goal: u32) -> TextAnswer
-    ensures { T.text_outcome result ≡ T.goal_text bytes.now goal }
+pub fn find_text(bytes: &[u8], goal: u32) -> Result<Span, Refusal>
+    ensures { outcome result ≡ T.goal_text bytes.now goal }
 {
     record_text::find(bytes, goal)
 }
@@ -141,30 +122,21 @@ pub fn goal_text(bytes: &[u8], goal: u32) -> &[u8]
 }
 
 // Checks an expression's text against the order of an accepted record.
-fn check_text(bytes: &[u8], text: &[u8]) -> CheckAnswer
-    requires { WellFormed bytes.now }
-    ensures { W.check_outcome result ≡ checked (F.goal_count bytes.now) (before bytes.now) text.now }
+#[tactic(auto, using(record::proofs::WellFormed::fine_well_formed))]
+fn check_text(given: Record<'_>, text: &[u8]) -> Result<Verdict, Refusal>
+    ensures { W.check_outcome result ≡ (let b = given.entry.bytes.now in checked (F.goal_count b) (before b) text.now) }
 {
-    let n = record_fields::goal_count(bytes);
-    let answer = expression_reading::read_text(text, n);
-    let outcome = answer.outcome;
-    match outcome {
-        Reading::Refused(r) => CheckAnswer::Rejected(r),
-        Reading::Fine => {
-            let c = clause::decode(bytes);
-            let graph = order::order_of(c.n, &c.sets, &c.grounds, &c.listed);
-            let drawn = answer.graph;
-            CheckAnswer::Verdict(order_compare::compare(&graph.rows, &drawn.rows, n))
-        }
-    }
+    let n = record_fields::goal_count(given.bytes);
+    let drawn = expression_reading::read_text(text, n)?;
+    let c = clause::decode(given);
+    let graph = order::order_of(&c);
+    Ok(order_compare::compare(&graph.rows, &drawn.graph.rows, n))
 }
 
 // Checks an expression's text against the order of a record.
-pub fn check(bytes: &[u8], text: &[u8]) -> CheckAnswer
+#[tactic(auto, using(record_rules::proofs::Outcomes::read_err, record_rules::proofs::Outcomes::read_ok), unfolding(crate::specs::Answers::check))]
+pub fn check(bytes: &[u8], text: &[u8]) -> Result<Verdict, Refusal>
     ensures { W.check_outcome result ≡ W.check bytes.now text.now }
 {
-    match record::read(bytes) {
-        Reading::Refused(r) => CheckAnswer::Rejected(r),
-        Reading::Fine => check_text(bytes, text),
-    }
+    check_text(record::accept(bytes)?, text)
 }

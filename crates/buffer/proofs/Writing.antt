@@ -2,10 +2,14 @@
 use mathlib.Core.Path.{◌≡◌, refl, sym, ap, ◌∙◌, subst}
 use mathlib.Core.Bool.{Bool, true, false, cond}
 use mathlib.Core.List.{List, [], ◌∷◌, ◌++◌, append_assoc}
-use Prim.Native.Nat.{ℕ, suc, ◌+◌, ◌≤◌, ◌<◌}
+use Prim.Native.Nat.{ℕ, suc, ◌+◌, ◌-◌, ◌≤◌, ◌<◌}
 use native.Mathlib.Nat.{add-zero, add-suc, suc-add}
 use native.Mathlib.Omega.{arith}
 use lib.ListN.{length, set, take, drop, length-append}
+use borrow.Rule.Slice.PartMut.{put_mid}
+use Rattle.std.proofs.lemmas.List.{length-take-le, take-append-drop}
+use Rattle.std.proofs.Math.Seq.{take-length}
+use Rattle.std.proofs.lemmas.Slice.{put_mid-paste}
 use lib.Dec.{ltb}
 use borrow.Author.Tests.{lt-ltb, le-ltb}
 use lib.Seq.{sets, sets-eq, length-sets, set-set, set_comm, set_out}
@@ -53,6 +57,23 @@ sets_past (a ∷ t) l at h = ap (λ (k : List ℕ). sets k (suc at) t) (set_out 
 pub past : (t l : List ℕ) (at : ℕ) → length l ≤ at → Wrote t at l (at + length t) l
 past t l at h = record { place = refl; bytes = sym (sets_past t l at h) }
 
+-- a text that is copied into a buffer with room for it
+pub copied : (t l t' : List ℕ) (at k : ℕ) → at + length t ≤ length l → k ≡ length t → t' ≡ t → Wrote t at l (at + length t) (put_mid at k l t')
+copied t l t' at k h e p =
+    record {
+      place = refl;
+      bytes = put_mid-paste at k l t' t (length t) p (sym e) refl ∙ rw take-length (sym (sets-eq t l at h));
+    }
+
+-- what goes in of a text, copied into a buffer that ends inside it
+pub copied_front : (t l t' : List ℕ) (at k : ℕ) → at ≤ length l → length l ≤ at + length t → k ≡ length l - at → t' ≡ take k t → Wrote t at l (at + length t) (put_mid at k l t')
+copied_front t l t' at k h g e p =
+    let n : length (take k t) ≡ k = length-take-le k t (omega arith) in
+    let front : Wrote (take k t) at l (at + length (take k t)) (put_mid at k l t') = copied (take k t) l t' at k (omega arith) (sym n) p in
+    let both : Wrote (take k t ++ drop k t) at l (at + length (take k t) + length (drop k t)) (put_mid at k l t') =
+    then front (past (drop k t) (put_mid at k l t') (at + length (take k t)) (omega (arith, kept front))) in
+    arrive (omega (arith, length-append (take k t) (drop k t), ap length (take-append-drop k t))) (recast (take-append-drop k t) both)
+
 -- a store before the place where a text is written
 set_sets : (t : List ℕ) (l : List ℕ) (i j : ℕ) (b : ℕ) → i < j → set (sets l j t) i b ≡ sets (set l i b) j t
 set_sets [] l i j b h = refl
@@ -90,18 +111,6 @@ done {rest} {whole} {at} {o} {l} {n} h e = record { place = omega (arith, ap len
 -- what is left is written in one go
 pub finish : {rest whole : List ℕ} {at o e : ℕ} {l n b : List ℕ} → Left rest whole at l o n → Wrote rest o n e b → Wrote whole at l e b
 finish h w = record { place = omega arith; bytes = w.bytes ∙ h.bytes }
-
-pub left_kept : {rest whole : List ℕ} {at o : ℕ} {l n : List ℕ} → Left rest whole at l o n → length n ≡ length l
-left_kept {rest} {whole} {at} {o} {l} {n} h = sym (length-sets n o rest) ∙ ap length h.bytes ∙ length-sets l at whole
-
--- a byte that is written on a condition
-pub only-on : (on : Bool) (b : ℕ) → on ≡ true → b ∷ [] ≡ only on b
-unfolding only
-only-on on b h = ap (λ (t : Bool). only t b) (sym h)
-
-pub only_off : (on : Bool) (b : ℕ) → on ≡ false → [] ≡ only on b
-unfolding only
-only_off on b h = ap (λ (t : Bool). only t b) (sym h)
 
 -- one text of several, joined
 pub join_step : (more : Bool) (sep : ℕ) (t : List ℕ) (ts : List (List ℕ)) → join_from more sep (t ∷ ts) ≡ only more sep ++ t ++ join_from true sep ts

@@ -1,5 +1,6 @@
 // Reading a byte of a lent buffer, and writing texts into one. A byte past the end is counted and not stored, so the same function measures a text (run on
 // an empty buffer) and stores it.
+// The place stands beside the buffer and in no writer that holds both: a caller also goes back, as from a stage's checks to the parenthesis before them.
 #![tactic(auto)]
 
 ghost use Rattle.std.specs.Prelude.{◌≡◌, [], ◌∷◌, ◌+◌, ◌^◌, ◌<◌, ◌≤◌, length, get_or};
@@ -10,7 +11,7 @@ ghost use Rattle.buffer.specs.Decimal.{decimal};
 pub fn byte(s: &[u8], at: usize) -> u8
     ensures { result ≡ get_or s.now at 0 }
 {
-    if at < s.len() { s[at] } else { 0 }
+    s.get(at).copied().unwrap_or(0)
 }
 
 // Writes b at place `at`.
@@ -24,40 +25,19 @@ pub fn put_byte(out: &mut [u8], at: usize, b: u8) -> usize
     at + 1
 }
 
-// Writes all of s from place `at` of a buffer that has room for it.
-fn fill(out: &mut [u8], at: usize, s: &[u8]) -> usize
-    requires { at + length s.now ≤ length out.old }
-    ensures { Wrote s.now at out.old result out.new }
-{
-    let mut o = at;
-    let mut i = 0;
-    while i < s.len() {
-        out[o] = s[i];
-        o += 1;
-        i += 1;
-    }
-    o
-}
-
-// Writes all of s from place `at`. Whether it has room is asked once and not at each byte, unless the buffer ends inside it.
+// Writes all of s from place `at`. Whether it has room is asked once and not at each byte; where the buffer ends inside it, what goes in is put.
 pub fn put_bytes(out: &mut [u8], at: usize, s: &[u8]) -> usize
     requires { at + length s.now < 2 ^ 64 }
     ensures { Wrote s.now at out.old result out.new }
 {
     let end = at + s.len();
     if end <= out.len() {
-        return fill(out, at, s);
+        out[at..end].copy_from_slice(s);
+    } else if at < out.len() {
+        let room = out.len() - at;
+        out[at..].copy_from_slice(&s[..room]);
     }
-    if out.len() <= at {
-        return end;
-    }
-    let mut o = at;
-    let mut i = 0;
-    while i < s.len() {
-        o = put_byte(out, o, s[i]);
-        i += 1;
-    }
-    o
+    end
 }
 
 // The digit of x, which is below 10.
@@ -65,7 +45,7 @@ fn digit(x: usize) -> u8
     requires { x < 10 }
     ensures { result ≡ 48 + x }
 {
-    48 + x as u8
+    b'0' + x as u8
 }
 
 // Writes n in decimal, digit by digit.
@@ -96,6 +76,7 @@ pub fn put_number(out: &mut [u8], at: usize, n: usize) -> usize
 }
 
 // Writes b where `on` holds, and nothing where not.
+#[tactic(auto, unfolding(crate::specs::Text::only))]
 pub fn put_if(out: &mut [u8], at: usize, b: u8, on: bool) -> usize
     requires { at + 1 < 2 ^ 64 }
     ensures { Wrote (only on b) at out.old result out.new }

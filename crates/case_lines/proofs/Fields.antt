@@ -2,29 +2,31 @@
 use mathlib.Core.Path.{◌≡◌, refl, sym, ap, ◌∙◌}
 use mathlib.Core.List.{List, [], ◌∷◌, ◌++◌}
 use Prim.Native.Nat.{ℕ, suc, ◌+◌, ◌*◌, ◌%◌, ◌^◌, ◌≤◌, ◌<◌}
-use native.Mathlib.Numerals.{add-one}
+use native.Mathlib.Numerals.{add-one, one-add}
 use native.Mathlib.Omega.{arith}
 use lib.ListN.{length, get_or, take, drop, drop_of_length-le}
 use lib.Seq.{drop-cons, drop-drop}
-use borrow.Author.Tests.{eq-eqb, ne_eqb}
+use lib.Dec.{eqb, ltb}
+use Rattle.std.specs.List.{position}
+use Rattle.std.specs.Prelude.{cond, Some, None}
+use Rattle.std.specs.Option.{unwrap_or}
+use Rattle.std.proofs.lemmas.Bool.Decides.{nat_tests}
+use Rattle.std.proofs.lemmas.List.Sums.{prefix_len-le-length}
+use Rattle.std.proofs.lemmas.List.Recursion.{is_position_or_len}
 use Rattle.case_lines.specs.Line.{up_to, past, past_fields, field_of, value_of, nibble, bytes_of}
 
-module _ (stop : ℕ) (s : List ℕ) (at : ℕ) where
-  pub up_hit : at < length s → get_or s at 0 ≡ stop → up_to stop (drop at s) ≡ 0
-  unfolding up_to
-  up_hit h e = rw (drop-cons s at 0 h, eq-eqb (get_or s at 0) stop e)
+first_or_len : (k n : ℕ) → k ≤ n → unwrap_or (cond (ltb k n) (Some k) None) n ≡ k
+first_or_len k n h = grind (arith, nat_tests)
 
-  pub up_miss : at < length s → (get_or s at 0 ≡ stop → ⊥) → up_to stop (drop at s) ≡ suc (up_to stop (drop (at + 1) s))
-  unfolding up_to
-  up_miss h e = rw (drop-cons s at 0 h, ne_eqb (get_or s at 0) stop e, add-one at)
+-- the first place of `stop`, or the length
+pub first_stop : (stop : ℕ) (l : List ℕ) → unwrap_or (position (λ b. eqb b stop) l) (length l) ≡ up_to stop l
+unfolding up_to
+first_stop stop l =
+    first_or_len _ _ (prefix_len-le-length _ l) ∙ sym (is_position_or_len (up_to stop) (λ b. eqb b stop) refl (λ x xs. rw one-add) l)
 
-  pub up_end : length s ≤ at → up_to stop (drop at s) ≡ 0
-  unfolding up_to
-  up_end h = rw (drop_of_length-le s h)
-
-  pub past_is : past stop (drop at s) ≡ drop (at + suc (up_to stop (drop at s))) s
-  unfolding past
-  past_is = drop-drop (suc (up_to stop (drop at s))) at s
+pub past_is : (stop : ℕ) (s : List ℕ) (at : ℕ) → past stop (drop at s) ≡ drop (at + suc (up_to stop (drop at s))) s
+unfolding past
+past_is stop s at = drop-drop (suc (up_to stop (drop at s))) at s
 
 pub fields_zero : (s : List ℕ) → drop 0 s ≡ past_fields 0 s
 unfolding past_fields
@@ -46,20 +48,19 @@ pub value-end : (s : List ℕ) (i v : ℕ) → length s ≤ i → value_of v (dr
 unfolding value_of
 value-end s i v h = rw (drop_of_length-le s h)
 
-pub bytes_more : (s : List ℕ) (i : ℕ) → i + 1 < length s
-    → bytes_of (drop i s) ≡ ((nibble (get_or s i 0) * 16 + nibble (get_or s (i + 1) 0)) ∷ []) ++ bytes_of (drop (i + 2) s)
+-- two digits and what follows them, and what is left at the end
+pub bytes_more : (x s : List ℕ) → length x ≡ 2 → bytes_of (x ++ s) ≡ ((nibble (get_or x 0 0) * 16 + nibble (get_or x 1 0)) ∷ []) ++ bytes_of s
 unfolding bytes_of
-bytes_more s i h =
-    let e : i + 2 ≡ suc (suc i) = omega arith in
-    rw (drop-cons s i 0 (omega arith), drop-cons s (suc i) 0 (omega arith), add-one i, e)
+bytes_more [] s h = absurd (omega arith)
+bytes_more (a ∷ []) s h = absurd (omega arith)
+bytes_more (a ∷ b ∷ []) s h = refl
+bytes_more (a ∷ b ∷ d ∷ x) s h = absurd (omega arith)
 
-pub bytes-last : (s : List ℕ) (i : ℕ) → i + 1 ≡ length s → bytes_of (drop i s) ≡ []
+pub bytes-end : (s : List ℕ) → length s < 2 → bytes_of s ≡ []
 unfolding bytes_of
-bytes-last s i h = rw (drop-cons s i 0 (omega arith), drop_of_length-le s {i = suc i} (omega arith))
-
-pub bytes-end : (s : List ℕ) (i : ℕ) → length s ≤ i → bytes_of (drop i s) ≡ []
-unfolding bytes_of
-bytes-end s i h = rw (drop_of_length-le s h)
+bytes-end [] h = refl
+bytes-end (a ∷ []) h = refl
+bytes-end (a ∷ b ∷ s) h = absurd (omega arith)
 
 -- the place after the first `stop`: one past it, or the end where there is none
 pub past-hit : (stop : ℕ) (s : List ℕ) (from r : ℕ) → r ≡ from + up_to stop (drop from s) → drop (r + 1) s ≡ past stop (drop from s)

@@ -1,9 +1,16 @@
 // Reading lines of test cases: fields separated by one space, bytes in hexadecimal, numbers in decimal.
 #![tactic(auto)]
 
-ghost use Rattle.std.specs.Prelude.{◌≡◌, ◌+◌, ◌<◌, ◌≤◌, ◌^◌, length, drop};
+ghost use Rattle.std.specs.Prelude.{◌≡◌, ◌+◌, ◌<◌, ◌≤◌, ◌^◌, ◌==◌, length, drop, position};
 ghost use Rattle.buffer.specs.Text.{Wrote};
 ghost use Rattle.case_lines.specs.Line as L;
+
+// The place of the first byte `stop`, if there is one.
+fn place(s: &[u8], stop: u8) -> Option<usize>
+    ensures { result ≡ position (λ b. b == stop) s.now }
+{
+    s.iter().position(|b| *b == stop)
+}
 
 // The place of the first byte `stop` at or after `from`, or the length where there is none.
 pub fn find(s: &[u8], from: usize, stop: u8) -> usize
@@ -11,14 +18,8 @@ pub fn find(s: &[u8], from: usize, stop: u8) -> usize
     ensures value { result ≡ from + L.up_to stop (drop from s.now) }
     ensures lower_bound { (from ≤ result) × (result ≤ length s.now) }
 {
-    let mut at = from;
-    while at < s.len() {
-        if s[at] == stop {
-            return at;
-        }
-        at += 1;
-    }
-    at
+    let rest = &s[from..];
+    from + place(rest, stop).unwrap_or(rest.len())
 }
 
 // The place after the first byte `stop` at or after `from`, or the length where there is none.
@@ -37,10 +38,8 @@ fn field_start(s: &[u8], k: usize) -> usize
     ensures upper_bound { result ≤ length s.now }
 {
     let mut at: usize = 0;
-    let mut i: usize = 0;
-    while i < k {
-        at = after(s, at, 32);
-        i += 1;
+    for _ in 0..k {
+        at = after(s, at, b' ');
     }
     at
 }
@@ -50,14 +49,8 @@ pub fn field(s: &[u8], k: usize) -> &[u8]
     ensures { result.now ≡ L.field_of k s.now }
 {
     let at = field_start(s, k);
-    let end = find(s, at, 32);
+    let end = find(s, at, b' ');
     &s[at..end]
-}
-
-fn wide(x: u8) -> u64
-    ensures { result ≡ x }
-{
-    x as u64
 }
 
 // The decimal number of a field, modulo 2 to the power 32.
@@ -66,16 +59,13 @@ pub fn number(s: &[u8]) -> u64
     ensures upper_bound { result < 2 ^ 32 }
 {
     let mut v: u64 = 0;
-    let mut i: usize = 0;
-    while i < s.len() {
-        let d = wide(s[i]);
-        v = (v * 10 + d % 16) % 4294967296;
-        i += 1;
+    for b in s {
+        v = (v * 10 + u64::from(*b) % 16) % 4294967296;
     }
     v
 }
 
-// The value of a hexadecimal digit.
+// The value of a hexadecimal digit, by arithmetic: the definition has a value for every byte.
 fn nibble(b: u8) -> u8
     ensures value { result ≡ L.nibble b }
     ensures upper_bound { result < 16 }
@@ -88,14 +78,9 @@ pub fn bytes(s: &[u8], out: &mut [u8]) -> usize
     ensures { Wrote (L.bytes_of s.now) 0 out.old result out.new }
 {
     let mut o: usize = 0;
-    let mut i: usize = 0;
-    while i < s.len() {
-        if i + 1 == s.len() {
-            return o;
-        }
-        let b = nibble(s[i]) * 16 + nibble(s[i + 1]);
+    for pair in s.chunks_exact(2) {
+        let b = nibble(pair[0]) * 16 + nibble(pair[1]);
         o = buffer::put_byte(out, o, b);
-        i += 2;
     }
     o
 }

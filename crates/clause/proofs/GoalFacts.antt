@@ -26,20 +26,20 @@ module _ (w : ℕ) (f : ℕ → ℕ) where
 
 module _ (b : List ℕ) where
   -- ---- the goal that starts behind the first g goals is goal g + 1
-  goal-here : (f : ℕ → ℕ) (g at : ℕ) → at ≡ place_after b g → f at ≡ f (goal_place b (suc g))
-  goal-here f g at p = let one : g ≡ suc g - 1 = omega arith in ap f (p ∙ ap (place_after b) one)
+  goal_here : (f : ℕ → ℕ) (g at : ℕ) → at ≡ place_after b g → f at ≡ f (goal_place b (suc g))
+  goal_here f g at p = let one : g ≡ suc g - 1 = omega arith in ap f (p ∙ ap (place_after b) one)
 
   pub set_here : (g at : ℕ) → at ≡ place_after b g → F.set b at ≡ goal_set b (suc g)
   unfolding goal_set
-  set_here = goal-here (F.set b)
+  set_here = goal_here (F.set b)
 
-  pub ground-here : (g at : ℕ) → at ≡ place_after b g → ground_of b at ≡ ground_at b (suc g)
+  pub ground_here : (g at : ℕ) → at ≡ place_after b g → ground_of b at ≡ ground_at b (suc g)
   unfolding ground_at
-  ground-here = goal-here (ground_of b)
+  ground_here = goal_here (ground_of b)
 
-  pub ticks-here : (g at : ℕ) → at ≡ place_after b g → ticks_of b at ≡ ticks_at b (suc g)
+  pub ticks_here : (g at : ℕ) → at ≡ place_after b g → ticks_of b at ≡ ticks_at b (suc g)
   unfolding ticks_at
-  ticks-here = goal-here (ticks_of b)
+  ticks_here = goal_here (ticks_of b)
 
 module _ (w : ℕ) (b : List ℕ) where
   -- ---- all goals
@@ -51,9 +51,9 @@ module _ (w : ℕ) (b : List ℕ) where
   unfolding facts_after ground_sets
   grounds_all g e = ap (facts_after w (ground_at b)) e
 
-  pub ticks-all : (g : ℕ) → g ≡ goal_count b → facts_after w (ticks_at b) g ≡ goal_ticks w b
+  pub ticks_all : (g : ℕ) → g ≡ goal_count b → facts_after w (ticks_at b) g ≡ goal_ticks w b
   unfolding facts_after goal_ticks
-  ticks-all g e = ap (facts_after w (ticks_at b)) e
+  ticks_all g e = ap (facts_after w (ticks_at b)) e
 
   -- goal i + 1 at place i
   pub goal-at : (i : ℕ) → goal_count b ≤ w → i < goal_count b → get_or (goal_sets w b) i 0 ≡ goal_set b (suc i)

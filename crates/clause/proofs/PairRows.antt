@@ -2,7 +2,7 @@
 use mathlib.Core.Path.{◌≡◌, refl, sym, ap, ap₂, ◌∙◌, subst}
 use mathlib.Core.Bool.{Bool, true, false, ◌&&◌, ◌||◌, and_comm, or-false}
 use mathlib.Core.List.{List}
-use Prim.Native.Nat.{ℕ, ◌+◌, ◌*◌, ◌%◌, ◌^◌, ◌<◌}
+use Prim.Native.Nat.{ℕ, ◌+◌, ◌^◌, ◌<◌}
 use native.Mathlib.Decide.{ℕ_discrete}
 use native.Mathlib.Numerals.{add-one}
 use native.Mathlib.Omega.{arith}
@@ -15,7 +15,7 @@ use Rattle.logic.specs.Quantifiers.{some_below}
 use Rattle.logic.specs.Table.{table}
 use Rattle.logic.proofs.Table.{table-length, table_at, table_ext}
 use Rattle.sets.specs.Sets.{has, union, single, set_of}
-use Rattle.sets.proofs.Membership.{has-union, has-single, has_empty, shl_single}
+use Rattle.sets.proofs.Membership.{has-union, has-single, has_empty}
 use Rattle.sets.proofs.Builder.{single_lt, union_lt, has-set_of_in, set_of_lt, set_of_ext}
 use Rattle.record_fields.specs.Fields.{byte, pair_count, pair_at, listed}
 use Rattle.clause.specs.Clause.{pair_rows}
@@ -28,11 +28,6 @@ put l i j = set l i (union (get_or l i 0) (single j))
 -- rows of masks below 2 ^ w
 abbrev Fits : ℕ → List ℕ → Type 0
 Fits w l = (x : ℕ) → x < w → get_or l x 0 < 2 ^ w
-
--- as the machine computes it
-pub put_shifted : (w : ℕ) (l : List ℕ) (i j : ℕ) → j < w → set l i (union (get_or l i 0) (1 * 2 ^ j % 2 ^ w)) ≡ put l i j
-unfolding put
-put_shifted w l i j h = ap (λ (m : ℕ). set l i (union (get_or l i 0) m)) (shl_single w j h)
 
 put-length : (l : List ℕ) (i j : ℕ) → length (put l i j) ≡ length l
 unfolding put
@@ -143,11 +138,12 @@ module _ (w : ℕ) (b : List ℕ) where
       same x y = ap₂ (λ (p q : ℕ). (eqb p x && eqb q y) || (eqb p y && eqb q x)) ei ej
 
   -- the same as the loop has it, with row i at hand
-  pub rows_turn : (k i j r : ℕ) (l : List ℕ) → i < w → j < w → i ≡ byte b (pair_at b k) → j ≡ byte b (pair_at b k + 1) → l ≡ rows_after k → r ≡ get_or l i 0
-      → (let m = set l i (union r (1 * 2 ^ j % 2 ^ w)) in set m j (union (get_or m j 0) (1 * 2 ^ i % 2 ^ w))) ≡ rows_after (k + 1)
-  rows_turn k i j r l hi hj ei ej e er =
-      put_shifted w (set l i (union r (1 * 2 ^ j % 2 ^ w))) j i hi
-      ∙ ap (λ (m : List ℕ). put m j i) (ap (λ (x : ℕ). set l i (union x (1 * 2 ^ j % 2 ^ w))) er ∙ put_shifted w l i j hj) ∙ rows_more k i j l hi hj ei ej e
+  pub rows_turn : (k i j r x y : ℕ) (l : List ℕ) → i < w → j < w → i ≡ byte b (pair_at b k) → j ≡ byte b (pair_at b k + 1) → l ≡ rows_after k → r ≡ get_or l i 0
+      → x ≡ union r (single j) → y ≡ union (get_or (set l i x) j 0) (single i) → set (set l i x) j y ≡ rows_after (k + 1)
+  unfolding put
+  rows_turn k i j r x y l hi hj ei ej e er ex ey =
+      let one : set l i x ≡ put l i j = ap (set l i) (ex ∙ ap (λ (m : ℕ). union m (single j)) er) in
+      ap (set (set l i x) j) ey ∙ ap (λ (m : List ℕ). put m j i) one ∙ rows_more k i j l hi hj ei ej e
 
   -- row i stays at hand when a later one is stored
   pub row_kept : (k i j x y : ℕ) (l : List ℕ) → i < w → i < j → l ≡ rows_after k → x ≡ get_or (set (set l i x) j y) i 0

@@ -9,3 +9,7 @@ pub struct Head {
     pub goal: u32,
     pub left: u32,
 }
+
+impl Head {
+    pub const IDLE: Head = Head { goal: 0, left: 0 };
+}

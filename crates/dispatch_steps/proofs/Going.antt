@@ -15,10 +15,11 @@ use Rattle.dispatch_rule.specs.declared.Head.{Head}
 use Rattle.dispatch_rule.specs.Rule.{on, offer, taken, worked, ends, assigned, tick}
 use Rattle.dispatch_rule.specs.Validity.{In, Valid}
 use Rattle.dispatch_rule.proofs.Ticks.{tk}
+use Rattle.dispatch_steps.specs.declared.Phase.TheVariants.{Go}
 use Rattle.dispatch_steps.specs.declared.Board.{Board}
 use Rattle.dispatch_steps.specs.declared.Plan.{Plan}
 use Rattle.dispatch_steps.specs.declared.Stepped.{Stepped}
-use Rattle.dispatch_steps.specs.Steps.{state_of, going, alone, finishing, go_of, sweep_heads, sweep_board}
+use Rattle.dispatch_steps.specs.Steps.{state_of, alone, finishing, go_of, sweep_heads, sweep_board}
 use Rattle.dispatch_steps.proofs.Masks.{step-goes}
 use Rattle.dispatch_steps.proofs.Free.{has-alone, Free, Planned, free_less, taking_is}
 
@@ -39,9 +40,9 @@ module _ (R : ℕ → ℕ → Bool) (n : ℕ) (t : ℕ → ℕ) (E : ℕ → Boo
   pub record Gone (B : ℕ → Bool) (hs : List Head) (b : Board) : Type 0 where
     pub heads : sweep_heads p hs b ≡ map worked (taken R n t E B hs)
     pub done : (g : ℕ) → has_goal (sweep_board p hs b).done g ≡ (has_goal b.done g || ends (taken R n t E B hs) g)
-    pub phase : (sweep_board p hs b).phase ≡ going
+    pub phase : (sweep_board p hs b).phase ≡ Go
 
-  pub go_sweep : (hs : List Head) (b : Board) → b.phase ≡ going → (B : ℕ → Bool) → Free R n t E few B b.free
+  pub go_sweep : (hs : List Head) (b : Board) → b.phase ≡ Go → (B : ℕ → Bool) → Free R n t E few B b.free
       → ((h : Head) → In h (taken R n t E B hs) → h.goal ≤ goal_limit) → Gone B hs b
   unfolding sweep_heads sweep_board
   go_sweep [] b ph B f low = record { heads = refl; done = λ g. sym (or-false (has_goal b.done g)); phase = ph }
@@ -68,11 +69,11 @@ module _ (R : ℕ → ℕ → Bool) (n : ℕ) (t : ℕ → ℕ) (E : ℕ → Boo
 
 -- From a valid state, with the goals that can be taken in `free` and the ended goals in `done`, the heads that go do a tick.
 module _ (R : ℕ → ℕ → Bool) (n : ℕ) (t : ℕ → ℕ) (m : ℕ) (few : n ≤ goal_limit) (p : Plan) (pl : Planned R n t (has_goal m) few p) (o : Order R (Goals n))
-    (least : (g : ℕ) → Goals n g → 1 ≤ t g) (hs : List Head) (v : Valid R n t (state_of hs m)) (b : Board) (ph : b.phase ≡ going) (d : b.done ≡ m)
+    (least : (g : ℕ) → Goals n g → 1 ≤ t g) (hs : List Head) (v : Valid R n t (state_of hs m)) (b : Board) (ph : b.phase ≡ Go) (d : b.done ≡ m)
     (f : Free R n t (has_goal m) few (on hs) b.free)
   where
     pub record Ticked : Type 0 where
-      pub phase : (sweep_board p hs b).phase ≡ going
+      pub phase : (sweep_board p hs b).phase ≡ Go
       pub state : state_of (sweep_heads p hs b) (sweep_board p hs b).done ≡ tick R n t (state_of hs m)
 
     pub go_ticks : Ticked

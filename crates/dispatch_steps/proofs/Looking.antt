@@ -16,29 +16,30 @@ use Rattle.dispatch_rule.specs.declared.Head.{Head}
 use Rattle.dispatch_rule.specs.Rule.{idle, count, on, ready}
 use Rattle.dispatch_rule.specs.Validity.{all_heads, fine_head}
 use Rattle.dispatch_rule.proofs.Taking.{count-here, count_there, same_or}
+use Rattle.dispatch_steps.specs.declared.Phase.TheVariants.{Look, Rest, Idle}
 use Rattle.dispatch_steps.specs.declared.Board.{Board}
 use Rattle.dispatch_steps.specs.declared.Plan.{Plan}
 use Rattle.dispatch_steps.specs.declared.Stepped.{Stepped}
-use Rattle.dispatch_steps.specs.Steps.{looking, resting, idling, of_goal, is_fine, look_of, step_of, sweep_heads, sweep_board}
-use Rattle.dispatch_steps.proofs.Masks.{step-looks, step-rests, rest-idle, rest-same}
+use Rattle.dispatch_steps.specs.Steps.{of_goal, is_fine, look_of, step_of, sweep_heads, sweep_board}
+use Rattle.dispatch_steps.proofs.Masks.{step-looks, step-rests, step-idles}
 use Rattle.dispatch_steps.proofs.Free.{can, Free, Planned, free_less}
 
 -- ---- heads that rest, and heads that are made idle
 module _ (p : Plan) where
   -- the row is left as it was, and the board too
-  pub rest_sweep : (hs : List Head) (b : Board) → b.phase ≡ resting → (sweep_heads p hs b ≡ hs) × (sweep_board p hs b ≡ b)
+  pub rest_sweep : (hs : List Head) (b : Board) → b.phase ≡ Rest → (sweep_heads p hs b ≡ hs) × (sweep_board p hs b ≡ b)
   unfolding sweep_heads sweep_board
   rest_sweep [] b e = (refl, refl)
   rest_sweep (h ∷ hs) b e =
-      let s = step-rests h b p (λ z. omega arith) (λ z. omega arith) ∙ ap (λ (x : Head). record { head = x; board = b }) (sym (rest-same h b.phase (λ z. omega arith))) in
+      let s = step-rests h b p e in
       let r = rest_sweep hs b e in
       (ap (λ (x : Stepped). x.head ∷ sweep_heads p hs x.board) s ∙ ap (λ l. h ∷ l) r.0, ap (λ (x : Stepped). sweep_board p hs x.board) s ∙ r.1)
 
-  pub idle_sweep : (hs : List Head) (b : Board) → b.phase ≡ idling → (sweep_heads p hs b ≡ replicate (length hs) idle) × (sweep_board p hs b ≡ b)
+  pub idle_sweep : (hs : List Head) (b : Board) → b.phase ≡ Idle → (sweep_heads p hs b ≡ replicate (length hs) idle) × (sweep_board p hs b ≡ b)
   unfolding sweep_heads sweep_board
   idle_sweep [] b e = (refl, refl)
   idle_sweep (h ∷ hs) b e =
-      let s = step-rests h b p (λ z. omega arith) (λ z. omega arith) ∙ ap (λ (x : Head). record { head = x; board = b }) (sym (rest-idle h b.phase e)) in
+      let s = step-idles h b p e in
       let r = idle_sweep hs b e in
       (ap (λ (x : Stepped). x.head ∷ sweep_heads p hs x.board) s ∙ ap (λ l. idle ∷ l) r.0, ap (λ (x : Stepped). sweep_board p hs x.board) s ∙ r.1)
 
@@ -51,10 +52,10 @@ module _ (p : Plan) where
   pub record Looked (hs : List Head) (b : Board) : Type 0 where
     pub heads : sweep_heads p hs b ≡ hs
     pub done : (sweep_board p hs b).done ≡ b.done
-    pub good : look_all hs b ≡ true → (sweep_board p hs b).phase ≡ looking
-    pub bad : look_all hs b ≡ false → (sweep_board p hs b).phase ≡ resting
+    pub good : look_all hs b ≡ true → (sweep_board p hs b).phase ≡ Look
+    pub bad : look_all hs b ≡ false → (sweep_board p hs b).phase ≡ Rest
 
-  pub look_sweep : (hs : List Head) (b : Board) → b.phase ≡ looking → Looked hs b
+  pub look_sweep : (hs : List Head) (b : Board) → b.phase ≡ Look → Looked hs b
   unfolding sweep_heads sweep_board
   look_sweep [] b e = record { heads = refl; done = refl; good = λ u. e; bad = λ u. absurd (true≢false u) }
   look_sweep (h ∷ hs) b e =
@@ -64,7 +65,7 @@ module _ (p : Plan) where
       let row : sweep_heads p (h ∷ hs) b ≡ h ∷ sweep_heads p hs c = ap (λ (x : Stepped). x.head ∷ sweep_heads p hs x.board) s in
       ⊎_elim
       (λ (f : is_fine goal_limit b p h ≡ true).
-      let r = look_sweep hs c (ap (λ x. cond x b.phase resting) f ∙ e) in
+      let r = look_sweep hs c (ap (λ x. cond x b.phase Rest) f ∙ e) in
       let k : look_all (h ∷ hs) b ≡ look_all hs c = ap (λ x. x && look_all hs c) f in
       record {
         heads = row ∙ ap (λ l. h ∷ l) r.heads;
@@ -73,7 +74,7 @@ module _ (p : Plan) where
         bad = λ u. ap (λ (x : Board). x.phase) to ∙ r.bad (sym k ∙ u);
       })
       (λ (f : is_fine goal_limit b p h ≡ false).
-      let q : c.phase ≡ resting = ap (λ x. cond x b.phase resting) f in
+      let q : c.phase ≡ Rest = ap (λ x. cond x b.phase Rest) f in
       let r = rest_sweep hs c q in
       record {
         heads = row ∙ ap (λ l. h ∷ l) r.0;
@@ -197,7 +198,7 @@ module _ (R : ℕ → ℕ → Bool) (n : ℕ) (t : ℕ → ℕ) (E : ℕ → Boo
       (λ e. le-leb 1 (count (h ∷ hs) g) (omega (arith, count-here h hs g (eqb-true g h.goal e))) ∙ sym (ap (λ x. x || on hs g) e))
       (λ e. ap (leb 1) (count_there h hs g (eqb-false g h.goal e)) ∙ sym (ap (λ x. x || on hs g) e)) (test (eqb g h.goal))
 
-  pub look_free : (hs : List Head) (B : ℕ → Bool) (b : Board) → b.phase ≡ looking → Free R n t E few B b.free → look_all p hs b ≡ true
+  pub look_free : (hs : List Head) (B : ℕ → Bool) (b : Board) → b.phase ≡ Look → Free R n t E few B b.free → look_all p hs b ≡ true
       → Free R n t E few (λ g. B g || on hs g) (sweep_board p hs b).free
   unfolding sweep_board
   look_free [] B b ph f u = record { inside = f.inside; says = λ g a. f.says g a ∙ ap (λ x. not (E g) && not x && ready R n E g) (sym (or-none (B g))) }
@@ -206,7 +207,7 @@ module _ (R : ℕ → ℕ → Bool) (n : ℕ) (t : ℕ → ℕ) (E : ℕ → Boo
       let q = fine_to B b f h k.0 in
       let c = look_of goal_limit h b p in
       let r =
-      look_free hs (λ g. B g || eqb g h.goal) c (ap (λ x. cond x b.phase resting) k.0 ∙ ph)
+      look_free hs (λ g. B g || eqb g h.goal) c (ap (λ x. cond x b.phase Rest) k.0 ∙ ph)
       (free_less R n t E few B b.free h.goal (low h q.0) f) k.1 in
       let e : (sweep_board p hs (step_of h b p).board).free ≡ (sweep_board p hs c).free = ap (λ (x : Stepped). (sweep_board p hs x.board).free) (step-looks h b p ph) in
       record {

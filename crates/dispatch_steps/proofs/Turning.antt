@@ -18,11 +18,12 @@ use Rattle.dispatch_rule.specs.declared.Head.{Head}
 use Rattle.dispatch_rule.specs.Rule.{idle, count, on, ready, tick}
 use Rattle.dispatch_rule.specs.Validity.{all_heads, fine_head, is_valid}
 use Rattle.dispatch_rule.proofs.Validity.{valid_is}
+use Rattle.dispatch_steps.specs.declared.Phase.TheVariants.{Look, Go, Rest, Idle}
 use Rattle.dispatch_steps.specs.declared.Board.{Board}
 use Rattle.dispatch_steps.specs.declared.Plan.{Plan}
 use Rattle.dispatch_steps.specs.declared.Opening.{Opening}
-use Rattle.dispatch_steps.specs.Steps.{state_of, looking, going, resting, idling, sweep_heads, sweep_board, second_of, turn_heads, turn_board}
-use Rattle.dispatch_steps.proofs.Masks.{second_goes, second_stays}
+use Rattle.dispatch_steps.specs.Steps.{state_of, sweep_heads, sweep_board, second_of, turn_heads, turn_board}
+use Rattle.dispatch_steps.proofs.Masks.{second_goes, second-rests, second-idles}
 use Rattle.dispatch_steps.proofs.Free.{Free, Planned}
 use Rattle.dispatch_steps.proofs.Going.{go_ticks}
 use Rattle.dispatch_steps.proofs.Looking.{rest_sweep, idle_sweep, look_all, look_sweep, look_to, look_from, look_free}
@@ -40,27 +41,27 @@ module _ (o : Opening) (hs : List Head) where
   p = o.plan
 
   -- ---- something is refused from the start
-  pub turn_rests : b.phase ≡ resting → (turn_heads o hs ≡ hs) × (turn_board o hs ≡ b)
+  pub turn_rests : b.phase ≡ Rest → (turn_heads o hs ≡ hs) × (turn_board o hs ≡ b)
   unfolding turn_heads turn_board
   turn_rests e =
       let q = rest_sweep p hs b e in
-      let s : second_of (sweep_board p hs b) ≡ b = ap second_of q.1 ∙ sym (second_stays b (λ z. omega arith)) in
+      let s : second_of (sweep_board p hs b) ≡ b = ap second_of q.1 ∙ sym (second-rests b e) in
       let r = rest_sweep p hs b e in
       (ap₂ (sweep_heads p) q.0 s ∙ r.0, ap₂ (sweep_board p) q.0 s ∙ r.1)
 
   -- ---- a start
-  pub turn_idles : b.phase ≡ idling → (turn_heads o hs ≡ replicate (length hs) idle) × (turn_board o hs ≡ b)
+  pub turn_idles : b.phase ≡ Idle → (turn_heads o hs ≡ replicate (length hs) idle) × (turn_board o hs ≡ b)
   unfolding turn_heads turn_board
   turn_idles e =
       let q = idle_sweep p hs b e in
-      let s : second_of (sweep_board p hs b) ≡ b = ap second_of q.1 ∙ sym (second_stays b (λ z. omega arith)) in
+      let s : second_of (sweep_board p hs b) ≡ b = ap second_of q.1 ∙ sym (second-idles b e) in
       let r = idle_sweep p (replicate (length hs) idle) b e in
       let k : replicate (length (replicate (length hs) idle)) idle ≡ replicate (length hs) idle = ap (λ (x : ℕ). replicate x idle) (length-replicate (length hs) idle) in
       (ap₂ (sweep_heads p) q.0 s ∙ (r.0 ∙ k), ap₂ (sweep_board p) q.0 s ∙ r.1)
 
   -- ---- a tick
   module _ (R : ℕ → ℕ → Bool) (n : ℕ) (t : ℕ → ℕ) (m : ℕ) (few : n ≤ goal_limit) (pl : Planned R n t (has_goal m) few p) (or : Order R (Goals n))
-      (least : (g : ℕ) → Goals n g → 1 ≤ t g) (small : m < 2 ^ goal_limit) (ph : b.phase ≡ looking) (dn : b.done ≡ m)
+      (least : (g : ℕ) → Goals n g → 1 ≤ t g) (small : m < 2 ^ goal_limit) (ph : b.phase ≡ Look) (dn : b.done ≡ m)
       (free : Free R n t (has_goal m) few (λ g. false) b.free)
     where
       abbrev valid : Bool
@@ -73,7 +74,7 @@ module _ (o : Opening) (hs : List Head) where
       ended_fine = each (λ g. not (has_goal m g) || (leb g n && ready R n (has_goal m) g)) goal_limit
 
       pub record Accepted : Type 0 where
-        pub phase : (turn_board o hs).phase ≡ going
+        pub phase : (turn_board o hs).phase ≡ Go
         pub state : state_of (turn_heads o hs) (turn_board o hs).done ≡ tick R n t (state_of hs m)
 
       pub turn_accepts : valid ≡ true → Accepted
@@ -94,7 +95,7 @@ module _ (o : Opening) (hs : List Head) where
           }
 
       pub record Refused : Type 0 where
-        pub phase : (turn_board o hs).phase ≡ resting
+        pub phase : (turn_board o hs).phase ≡ Rest
         pub heads : turn_heads o hs ≡ hs
 
       -- the ended goals are judged before the row is
@@ -104,7 +105,7 @@ module _ (o : Opening) (hs : List Head) where
           let l = look_sweep p hs b ph in
           let q = l.bad (⊎_elim (λ u. clash (all u) e) (λ u. u) (test (look_all p hs b))) in
           let c = sweep_board p hs b in
-          let s : second_of c ≡ c = sym (second_stays c (λ z. omega arith)) in
+          let s : second_of c ≡ c = sym (second-rests c q) in
           let r = rest_sweep p (sweep_heads p hs b) c q in
           let k : sweep_board p (sweep_heads p hs b) (second_of c) ≡ c = ap (sweep_board p (sweep_heads p hs b)) s ∙ r.1 in
           record {

@@ -5,6 +5,8 @@ use Rattle.graph.specs.Graph.{has_goal}
 use Rattle.logic.specs.Quantifiers.{lowest}
 use Rattle.dispatch_rule.specs.declared.Head.{Head}
 use Rattle.dispatch_rule.specs.Rule.{State, idle, worked}
+use Rattle.dispatch_steps.specs.declared.Phase.{Phase}
+use Rattle.dispatch_steps.specs.declared.Phase.TheVariants.{Look, Go, Rest, Idle}
 use Rattle.dispatch_steps.specs.declared.Board.{Board}
 use Rattle.dispatch_steps.specs.declared.Plan.{Plan}
 use Rattle.dispatch_steps.specs.declared.Opening.{Opening}
@@ -13,19 +15,6 @@ use Rattle.dispatch_steps.specs.declared.Stepped.{Stepped}
 -- 02, request 4: "the 32-bit set of ended goals (goal g at bit g − 1)": the state that a row and such a set say
 abbrev pub state_of : List Head → ℕ → State
 state_of hs m = record { heads = hs; ended = has_goal m }
-
--- ---- the phases of a board
-abbrev pub looking : ℕ
-looking = 0
-
-abbrev pub going : ℕ
-going = 1
-
-abbrev pub resting : ℕ
-resting = 2
-
-abbrev pub idling : ℕ
-idling = 3
 
 -- goal g alone, in a set of w goals; no other number is in such a set
 abbrev pub alone : ℕ → ℕ → ℕ
@@ -46,7 +35,7 @@ is_fine w b p h =
 abbrev pub look_of : ℕ → Head → Board → Plan → Board
 look_of w h b p =
     record {
-      phase = cond (is_fine w b p h) b.phase resting;
+      phase = cond (is_fine w b p h) b.phase Rest;
       free = without b.free (alone w h.goal);
       done = b.done;
     }
@@ -68,22 +57,26 @@ take_of w h b p =
 abbrev pub work_of : ℕ → Head → Board → Stepped
 work_of w h b = record { head = worked h; board = record { phase = b.phase; free = b.free; done = finishing w h b.done } }
 
--- one of the two, and both in the rule's order: "takes the lowest goal, .. then .. works one tick"
-abbrev pub act_of : ℕ → ℕ → Head → Board → Plan → Stepped
-act_of w what h b p = cond (eqb what 0) (take_of w h b p) (work_of w h b)
-
+-- both in the rule's order: "takes the lowest goal, .. then .. works one tick"
 abbrev pub go_of : ℕ → Head → Board → Plan → Stepped
 go_of w h b p = let s = take_of w h b p in work_of w s.head s.board
 
 -- ---- a head rests, or is made idle
-abbrev pub rest_of : Head → ℕ → Head
-rest_of h phase = cond (eqb phase idling) idle h
+abbrev pub rest_of : Head → Phase → Head
+rest_of h Idle = idle
+rest_of h Look = h
+rest_of h Go = h
+rest_of h Rest = h
 
--- ---- a head's turn
+-- ---- a head's turn, by the phase of the board
+abbrev pub turn_of : Phase → Head → Board → Plan → Stepped
+turn_of Look h b p = record { head = h; board = look_of goal_limit h b p }
+turn_of Go h b p = go_of goal_limit h b p
+turn_of Rest h b p = record { head = rest_of h Rest; board = b }
+turn_of Idle h b p = record { head = rest_of h Idle; board = b }
+
 unfoldable pub step_of : Head → Board → Plan → Stepped
-step_of h b p =
-    cond (eqb b.phase going) (go_of goal_limit h b p)
-    (cond (eqb b.phase looking) (record { head = h; board = look_of goal_limit h b p }) (record { head = rest_of h b.phase; board = b }))
+step_of h b p = turn_of b.phase h b p
 
 -- ---- the heads of a row in turn, lowest first: the row that they leave, and the board
 unfoldable pub sweep_heads : Plan → List Head → Board → List Head
@@ -95,8 +88,14 @@ sweep_board p [] b = b
 sweep_board p (h ∷ hs) b = sweep_board p hs (step_of h b p).board
 
 -- ---- a row gone over twice
+abbrev pub next_phase : Phase → Phase
+next_phase Look = Go
+next_phase Go = Go
+next_phase Rest = Rest
+next_phase Idle = Idle
+
 unfoldable pub second_of : Board → Board
-second_of b = record { phase = cond (eqb b.phase looking) going b.phase; free = b.free; done = b.done }
+second_of b = record { phase = next_phase b.phase; free = b.free; done = b.done }
 
 unfoldable pub turn_heads : Opening → List Head → List Head
 turn_heads o hs = sweep_heads o.plan (sweep_heads o.plan hs o.board) (second_of (sweep_board o.plan hs o.board))

@@ -2,7 +2,7 @@
 // it is idle, and works. Both are one pass over the row each: what a head's work changes, no later head's taking reads.
 #![tactic(auto)]
 
-ghost use Rattle.std.specs.Prelude.{◌≡◌, cond, ◌≤◌};
+ghost use Rattle.std.specs.Prelude.{◌≡◌, cond, ◌≤◌, IsNone, IfSome};
 ghost use Rattle.sets.specs.Sets.{goal_limit};
 ghost use Rattle.graph.specs.Graph.{has_goal};
 ghost use Rattle.logic.specs.Quantifiers.{lowest};
@@ -12,20 +12,16 @@ ghost use Rattle.dispatch_steps.specs.Steps as S;
 use dispatch_rule::Head;
 use graph::Graph;
 use record_rules::Refusal;
+use sets::Set;
 
-// What a board has done with a head: it is looked at, it takes a goal and works, it rests since something is refused, it is made idle.
-pub const LOOK: u32 = 0;
-
-pub const GO: u32 = 1;
-
-pub const REST: u32 = 2;
-
-pub const IDLE: u32 = 3;
-
-// What a head that goes does, one after the other.
-const TAKE: u32 = 0;
-
-const WORK: u32 = 1;
+// What is done with a head at its turn: it is looked at, it takes a goal and works, it rests since something is refused, it is made idle.
+#[derive(Clone, Copy, PartialEq, Eq)]
+pub enum Phase {
+    Look,
+    Go,
+    Rest,
+    Idle,
+}
 
 // What a tick goes by and no turn changes: how many ticks each goal takes, goal g at place g - 1.
 #[derive(Clone, Copy)]
@@ -36,14 +32,14 @@ pub struct Plan {
 // What a head's turn goes by and may change.
 #[derive(Clone, Copy)]
 pub struct Board {
-    pub phase: u32,
+    pub phase: Phase,
     // The goals that a head may have: not ended, their predecessors have all ended, and on no head that has had its turn.
     pub free: u32,
     // The goals that have ended.
     pub done: u32,
 }
 
-// What a tick or a start begins with; the refusal is the answer if the heads rest.
+// What a tick or a start begins with; the refusal is the answer if the heads rest. It stands beside the board and not in `Phase::Rest`: every head's turn copies the board.
 #[derive(Drop)]
 pub struct Opening {
     pub board: Board,
@@ -51,6 +47,7 @@ pub struct Opening {
     pub refusal: Refusal,
 }
 
+// Head, board and plan are parameters of their own, and no struct of the three: a turn makes a head and a board anew, and not the plan.
 #[derive(Drop)]
 pub struct Stepped {
     pub head: Head,
@@ -61,13 +58,10 @@ pub struct Stepped {
 fn alone(g: u32) -> u32
     ensures { result ≡ S.alone goal_limit g }
 {
-    if g == 0 {
-        return 0;
+    match g {
+        1..=32 => Graph::single(g as usize),
+        _ => 0,
     }
-    if g > 32 {
-        return 0;
-    }
-    Graph::single(g as usize)
 }
 
 // Goal g is in the set.
@@ -76,49 +70,40 @@ fn holds(set: u32, g: u32) -> bool
     ensures { result ≡ has_goal set g }
 {
     let i = (g - 1) as usize;
-    sets::has32(set, i)
+    set.has(i)
 }
 
-// The lowest goal of a set, or 0.
-fn lowest_of(set: u32) -> u32
-    ensures { result ≡ lowest (has_goal set) goal_limit }
+// The lowest goal of a set.
+fn lowest_of(set: u32) -> Option<u32>
+    ensures none { IsNone result → lowest (has_goal set) goal_limit ≡ 0 }
+    ensures in_range { IfSome result (λ g. (1 ≤ g) × (g ≤ goal_limit)) }
+    ensures value { IfSome result (λ g. g ≡ lowest (has_goal set) goal_limit) }
 {
     if set == 0 {
-        return 0;
+        return None;
     }
-    u32::trailing_zeros(set) + 1
+    Some(u32::trailing_zeros(set) + 1)
 }
 
 // The head may be as it is: idle with no ticks left, or at a free goal with ticks left, no more than the goal takes.
 fn fine(h: Head, b: Board, p: Plan) -> bool
     ensures { result ≡ S.is_fine goal_limit b p h }
 {
-    if h.goal == 0 {
-        return h.left == 0;
-    }
-    if h.goal > 32 {
-        return false;
-    }
-    let free = holds(b.free, h.goal);
-    let i = (h.goal - 1) as usize;
-    let most = p.ticks[i];
-    if free {
-        if h.left == 0 {
-            return false;
+    match h.goal {
+        0 => h.left == 0,
+        1..=32 => {
+            let most = p.ticks[(h.goal - 1) as usize];
+            holds(b.free, h.goal) && h.left != 0 && h.left <= most
         }
-        return h.left <= most;
+        _ => false,
     }
-    false
 }
 
 // The phase, or the heads rest since something is refused.
-pub fn kept(ok: bool, phase: u32) -> u32
-    ensures { result ≡ cond ok phase S.resting }
+pub fn kept(ok: bool, phase: Phase) -> Phase
+    ensures { result ≡ cond ok phase Phase.Rest }
 {
-    if ok {
-        return phase;
-    }
-    REST
+    if ok { phase } else { Phase::Rest }
 }
 
 // One head is looked at.
@@ -128,11 +113,8 @@ fn look(h: Head, b: Board, p: Plan) -> Board
     let ok = fine(h, b, p);
     let phase = kept(ok, b.phase);
     let one = alone(h.goal);
-    let free = sets::without32(b.free, one);
-    let mut board = b;
-    board.phase = phase;
-    board.free = free;
-    board
+    let free = b.free.without(one);
+    Board { phase, free, ..b }
 }
 
 // The head once it has had its turn to take a goal.
@@ -142,13 +124,13 @@ fn taken(h: Head, b: Board, p: Plan) -> Head
     if h.goal != 0 {
         return h;
     }
-    let goal = lowest_of(b.free);
-    if goal == 0 {
-        return Head { goal: 0, left: 0 };
+    match lowest_of(b.free) {
+        None => Head::IDLE,
+        Some(goal) => {
+            let left = p.ticks[(goal - 1) as usize];
+            Head { goal, left }
+        }
     }
-    let i = (goal - 1) as usize;
-    let left = p.ticks[i];
-    Head { goal, left }
 }
 
 // The head after one tick of work: at 0 left it is idle.
@@ -156,7 +138,7 @@ fn worked(h: Head) -> Head
     ensures { result ≡ worked h }
 {
     if h.left <= 1 {
-        return Head { goal: 0, left: 0 };
+        return Head::IDLE;
     }
     let left = h.left - 1;
     Head { goal: h.goal, left }
@@ -168,7 +150,7 @@ fn finished(h: Head, done: u32) -> u32
 {
     let one = alone(h.goal);
     if h.left <= 1 {
-        return sets::union32(done, one);
+        return done.union(one);
     }
     done
 }
@@ -180,7 +162,7 @@ fn take(h: Head, b: Board, p: Plan) -> Stepped
 {
     let head = taken(h, b, p);
     let one = alone(head.goal);
-    let others = sets::without32(b.free, one);
+    let others = b.free.without(one);
     let board = Board {
         phase: b.phase,
         free: others,
@@ -203,57 +185,52 @@ fn work(h: Head, b: Board) -> Stepped
     Stepped { head, board }
 }
 
-// One of the two acts of a head in a tick.
-fn act(what: u32, h: Head, b: Board, p: Plan) -> Stepped
-    ensures { result ≡ S.act_of goal_limit what h b p }
-{
-    if what == TAKE {
-        return take(h, b, p);
-    }
-    work(h, b)
-}
-
 // One head takes a goal, if it is idle, and then works.
 fn go(h: Head, b: Board, p: Plan) -> Stepped
     ensures { result ≡ S.go_of goal_limit h b p }
 {
-    let first = act(TAKE, h, b, p);
-    act(WORK, first.head, first.board, p)
+    let first = take(h, b, p);
+    work(first.head, first.board)
 }
 
 // A head that rests, or is made idle.
-fn rested(h: Head, phase: u32) -> Head
+fn rested(h: Head, phase: Phase) -> Head
     ensures { result ≡ S.rest_of h phase }
 {
-    if phase == IDLE {
-        return Head { goal: 0, left: 0 };
+    match phase {
+        Phase::Idle => Head::IDLE,
+        _ => h,
     }
-    h
 }
 
-// One head's turn.
+// One head's turn. Three arms and no fourth: a match of four is a jump through a table, which at each head is guessed wrong more often than two tests.
+#[tactic(auto, unfolding(crate::specs::Steps::step_of))]
 pub fn step(h: Head, b: Board, p: Plan) -> Stepped
     ensures { result ≡ S.step_of h b p }
 {
-    if b.phase == GO {
-        return go(h, b, p);
+    match b.phase {
+        Phase::Go => go(h, b, p),
+        Phase::Look => {
+            let board = look(h, b, p);
+            Stepped { head: h, board }
+        }
+        _ => {
+            let head = rested(h, b.phase);
+            Stepped { head, board: b }
+        }
     }
-    if b.phase == LOOK {
-        let board = look(h, b, p);
-        return Stepped { head: h, board };
-    }
-    let head = rested(h, b.phase);
-    Stepped { head, board: b }
 }
 
 // Between the two times that the row is gone over: the heads go, if none of them was refused.
+#[tactic(auto, unfolding(crate::specs::Steps::second_of))]
 pub fn second(b: Board) -> Board
     ensures { result ≡ S.second_of b }
 {
-    if b.phase == LOOK {
-        let mut board = b;
-        board.phase = GO;
-        return board;
+    match b.phase {
+        Phase::Look => Board {
+            phase: Phase::Go,
+            ..b
+        },
+        _ => b,
     }
-    b
 }

@@ -1,4 +1,5 @@
 -- What the steps of a start and of a tick do, from what they begin with, is what the rule says.
+use Rattle.std.specs.Prelude.{Ok, Err}
 use mathlib.Core.Path.{◌≡◌, refl, sym, ap, ap₂, ◌∙◌, subst}
 use mathlib.Core.Bool.{Bool, true, false, not, ◌&&◌, ◌||◌, cond, true≢false, or-true, and-true as and_yes, and-false as and_no}
 use mathlib.Core.List.{List}
@@ -20,10 +21,8 @@ use Rattle.graph.proofs.Rows.{goals_ext, goals-has}
 use Rattle.record_fields.specs.Facts.{ticks_at}
 use Rattle.record_fields.specs.Fields.{goal_count}
 use Rattle.record_rules.specs.declared.Refusal.{Refusal}
-use Rattle.record_rules.specs.declared.Reading.{Reading}
-use Rattle.record_rules.specs.declared.Reading.TheVariants.{Fine, Refused}
 use Rattle.record_rules.specs.Outcome.{Outcome, refused, accepted, started, read_then, only_if}
-use Rattle.record_rules.specs.Reading.{reading}
+use Rattle.record_rules.specs.Reading.{reading, Reading}
 use Rattle.record.specs.WellFormed.{WellFormed}
 use Rattle.record.proofs.WellFormed.{fine_well_formed}
 use Rattle.record.proofs.Facts.{ticks_range}
@@ -40,14 +39,15 @@ use Rattle.dispatch_rule.specs.Rule.{State, count, start, ready, tick}
 use Rattle.dispatch_rule.specs.Validity.{all_heads, fine_head, is_valid}
 use Rattle.dispatch_rule.proofs.Ticks.{valid-tick}
 use Rattle.dispatch_rule.proofs.Validity.{valid_is}
+use Rattle.dispatch_steps.specs.declared.Phase.TheVariants.{Look, Go, Rest, Idle}
 use Rattle.dispatch_steps.specs.declared.Board.{Board}
 use Rattle.dispatch_steps.specs.declared.Opening.{Opening}
-use Rattle.dispatch_steps.specs.Steps.{state_of, looking, resting, idling, turn_heads, turn_board}
+use Rattle.dispatch_steps.specs.Steps.{state_of, turn_heads, turn_board}
 use Rattle.dispatch_steps.proofs.Free.{Free, Planned}
 use Rattle.dispatch_steps.proofs.Turning.{has-wide, turn_rests, turn_idles, turn_accepts, turn_refuses}
 use Rattle.dispatcher.specs.Ticks.{few, start_outcome, acceptable, tick_outcome, set_of_state, row_after, start_answer, start_row, tick_answer, tick_row}
 use Rattle.dispatcher.specs.Openings.{left_of, waiting_of, bad_row, shut, start_open, tick_open, opened, start_opening, tick_opening, board_word, turn_word}
-use Rattle.dispatcher.proofs.Making.{word-refused, word_done}
+use Rattle.dispatcher.proofs.Making.{word_is}
 
 -- ---- ready by the waits alone, and by the order
 module _ (b : List ℕ) (E : ℕ → Bool) where
@@ -197,11 +197,11 @@ module _ (b : List ℕ) (w : WellFormed b) where
         pub row : turn_heads o hs ≡ row_after u hs
 
       -- refused by 20, with the row as it was
-      turned_down : (turn_board o hs).phase ≡ resting → turn_heads o hs ≡ hs → Met (refused 20 0)
+      turned_down : (turn_board o hs).phase ≡ Rest → turn_heads o hs ≡ hs → Met (refused 20 0)
       unfolding tick_word
-      turned_down p r = record { word = sym (word-refused (turn_board o hs) bad_row p); row = r }
+      turned_down p r = record { word = sym (word_is (turn_board o hs) bad_row Rest p); row = r }
 
-      goes : o.board.phase ≡ looking → known ≡ true → valid ≡ true → Met (accepted after)
+      goes : o.board.phase ≡ Look → known ≡ true → valid ≡ true → Met (accepted after)
       unfolding tick_open tick_word
       goes ph k e =
           let a = turn_accepts o hs (before b) n (ticks_at b) m few_goals (planned E) (before-order b) ticks_from small ph refl (free_is k) e in
@@ -211,11 +211,11 @@ module _ (b : List ℕ) (w : WellFormed b) where
           let same : (g : ℕ) → has_goal d g ≡ after.ended g = λ g. ap (λ (x : State). x.ended g) a.state in
           let fits : d < 2 ^ goal_limit = below_of goal_limit d (λ i l. is_false (has d i) (λ z. let k = v'.known (suc i) (sym (same (suc i)) ∙ z) in absurd (omega (arith, k.1, few_goals)))) in
           record {
-            word = sym (word_done (turn_board o hs) bad_row (λ z. omega (arith, a.phase))) ∙ goals_ext goal_limit d after.ended fits (λ g l u. same g);
+            word = sym (word_is (turn_board o hs) bad_row Go a.phase) ∙ goals_ext goal_limit d after.ended fits (λ g l u. same g);
             row = ap (λ (x : State). x.heads) a.state;
           }
 
-      looks : o.board.phase ≡ looking → known ≡ true → Met (only_if valid 20 0 (accepted after))
+      looks : o.board.phase ≡ Look → known ≡ true → Met (only_if valid 20 0 (accepted after))
       unfolding tick_open
       looks ph k =
           ⊎_elim (λ e. subst Met (sym (ap (λ x. cond x (accepted after) (refused 20 0)) e)) (goes ph k e))
@@ -225,7 +225,7 @@ module _ (b : List ℕ) (w : WellFormed b) where
           subst Met (sym (ap (λ x. cond x (accepted after) (refused 20 0)) e)) (turned_down r.phase r.heads))
           (test valid)
 
-      rests : o.board.phase ≡ resting → Met (refused 20 0)
+      rests : o.board.phase ≡ Rest → Met (refused 20 0)
       unfolding tick_open
       rests ph =
           let r = turn_rests o hs ph in
@@ -239,23 +239,23 @@ module _ (b : List ℕ) (w : WellFormed b) where
           ⊎_elim
           (λ k.
           subst Met (sym (ap (λ x. only_if (x && valid) 20 0 (accepted after)) f))
-          (looks (ap₂ (λ x y. cond (x && y) looking resting) f k) k))
+          (looks (ap₂ (λ x y. cond (x && y) Look Rest) f k) k))
           (λ k.
           let not_valid : valid ≡ false = is_false valid
           (λ e.
           true≢false
           (sym (ended_is small ∙ and_r (each (λ g. leb (count hs g) 1) n) _ (and_r (all_heads (fine_head (before b) n (ticks_at b) E) hs) _ e)) ∙ k)) in
           subst Met (sym (ap (λ x. only_if x 20 0 (accepted after)) (ap (λ x. few (length hs) && x) not_valid ∙ and_no (few (length hs)))))
-          (rests (ap (λ x. cond x looking resting) (ap (λ x. few (length hs) && x) k ∙ and_no (few (length hs))))))
+          (rests (ap (λ x. cond x Look Rest) (ap (λ x. few (length hs) && x) k ∙ and_no (few (length hs))))))
           (test known))
           (λ f.
-          subst Met (sym (ap (λ x. only_if (x && valid) 20 0 (accepted after)) f)) (rests (ap (λ x. cond (x && known) looking resting) f)))
+          subst Met (sym (ap (λ x. only_if (x && valid) 20 0 (accepted after)) f)) (rests (ap (λ x. cond (x && known) Look Rest) f)))
           (test (few (length hs)))
 
 -- ---- a refused record
 shut-met : (x : Refusal) (hs : List Head) → (board_word (turn_board (shut x) hs) x ≡ refusal_word x.number x.place) × (turn_heads (shut x) hs ≡ hs)
 unfolding shut
-shut-met x hs = let r = turn_rests (shut x) hs refl in (ap (λ b. board_word b x) r.1 ∙ sym (word-refused (shut x).board x refl), r.0)
+shut-met x hs = let r = turn_rests (shut x) hs refl in (ap (λ b. board_word b x) r.1 ∙ sym (word_is (shut x).board x Rest refl), r.0)
 
 -- ---- the operations
 pub tick-met : (b : List ℕ) (hs : List Head) (m : ℕ) → m < 2 ^ 32
@@ -266,8 +266,8 @@ tick-met b hs m small = by (reading b) refl
     by : (s : Reading) → reading b ≡ s
         → (turn_word (opened s (tick_open b (length hs) m)) hs ≡ tick_word (set_of_state (started s (only_if (acceptable b hs m) 20 0 (accepted (tick (before b) (goal_count b) (ticks_at b) (state_of hs m)))))))
         × (turn_heads (opened s (tick_open b (length hs) m)) hs ≡ row_after (started s (only_if (acceptable b hs m) 20 0 (accepted (tick (before b) (goal_count b) (ticks_at b) (state_of hs m))))) hs)
-    by Fine e = let r = open_met b (fine_well_formed b e) m hs small in (r.word, r.row)
-    by (Refused x) e = shut-met x hs
+    by (Ok _) e = let r = open_met b (fine_well_formed b e) m hs small in (r.word, r.row)
+    by (Err x) e = shut-met x hs
 
 pub start-met : (b : List ℕ) (hs : List Head)
     → (turn_word (start_opening b (length hs)) hs ≡ tick_word (start_answer b hs)) × (turn_heads (start_opening b (length hs)) hs ≡ start_row b hs)
@@ -278,19 +278,19 @@ start-met b hs = by (reading b)
         → (turn_word (start_open (length hs)) hs ≡ tick_word (set_of_state (only_if f 20 0 (accepted (start (length hs))))))
         × (turn_heads (start_open (length hs)) hs ≡ row_after (only_if f 20 0 (accepted (start (length hs)))) hs)
     open_start true e =
-        let ph : (start_open (length hs)).board.phase ≡ idling = ap (λ x. cond x idling resting) e in
+        let ph : (start_open (length hs)).board.phase ≡ Idle = ap (λ x. cond x Idle Rest) e in
         let r = turn_idles (start_open (length hs)) hs ph in (
-          ap (λ b. board_word b bad_row) r.1 ∙ sym (word_done (start_open (length hs)).board bad_row (λ z. omega (arith, ph)))
+          ap (λ b. board_word b bad_row) r.1 ∙ sym (word_is (start_open (length hs)).board bad_row Idle ph)
               ∙ goals_ext goal_limit 0 (λ g. false) (omega arith) (λ g l u. goal-none g),
           r.0,
         )
     open_start false e =
-        let ph : (start_open (length hs)).board.phase ≡ resting = ap (λ x. cond x idling resting) e in
+        let ph : (start_open (length hs)).board.phase ≡ Rest = ap (λ x. cond x Idle Rest) e in
         let r = turn_rests (start_open (length hs)) hs ph in
-        (ap (λ b. board_word b bad_row) r.1 ∙ sym (word-refused (start_open (length hs)).board bad_row ph), r.0)
+        (ap (λ b. board_word b bad_row) r.1 ∙ sym (word_is (start_open (length hs)).board bad_row Rest ph), r.0)
 
     by : (s : Reading)
         → (turn_word (opened s (start_open (length hs))) hs ≡ tick_word (set_of_state (started s (only_if (few (length hs)) 20 0 (accepted (start (length hs)))))))
         × (turn_heads (opened s (start_open (length hs))) hs ≡ row_after (started s (only_if (few (length hs)) 20 0 (accepted (start (length hs))))) hs)
-    by Fine = open_start (few (length hs)) refl
-    by (Refused x) = shut-met x hs
+    by (Ok _) = open_start (few (length hs)) refl
+    by (Err x) = shut-met x hs

@@ -1,4 +1,5 @@
 -- What request 4 says of starts, ticks and runs, on the operations. For any well-formed record: a form is not asked for.
+use Rattle.std.specs.Prelude.{Err}
 use mathlib.Core.Path.{◌≡◌, refl, sym, ap, ap₂, ◌∙◌, subst, fun_ext}
 use mathlib.Core.Bool.{Bool, true, false, ◌&&◌}
 use mathlib.Core.Logic.{◌⊎◌, inl, inr, ⊎_elim, ◌↔◌}
@@ -16,7 +17,6 @@ use Rattle.graph.proofs.Rows.{goals_ext, goals-has, goals_lt}
 use Rattle.record_fields.specs.Facts.{ticks_at}
 use Rattle.record_fields.specs.Fields.{goal_count}
 use Rattle.record_rules.specs.declared.Refusal.{Refusal}
-use Rattle.record_rules.specs.declared.Reading.TheVariants.{Refused}
 use Rattle.record_rules.specs.Reading.{reading}
 use Rattle.record_rules.specs.Outcome.{Outcome, refused, accepted, started, read_then, only_if, values, Accepted}
 use Rattle.record_rules.proofs.Outcomes.{All, all-refused, all_accepted, all_read, all-only, all-next, read-fine, number-zero, one_value}
@@ -263,7 +263,7 @@ module _ (b : List ℕ) (w : WellFormed b) where
 -- ---- refusals of the record, and what a refusal leaves
 module _ (b : List ℕ) (hs : List Head) where
   -- "20, after the record's refusals"
-  pub record_first : (m : ℕ) (r : Refusal) → reading b ≡ Refused r → (start_answer b hs ≡ refused r.number r.place) × (tick_answer b hs m ≡ refused r.number r.place)
+  pub record_first : (m : ℕ) (r : Refusal) → reading b ≡ Err r → (start_answer b hs ≡ refused r.number r.place) × (tick_answer b hs m ≡ refused r.number r.place)
   unfolding start_answer start_outcome tick_answer tick_outcome read_then
   record_first m r e = (
     ap (λ x. set_of_state (started x (only_if (few (length hs)) 20 0 (accepted (start (length hs)))))) e,

@@ -2,13 +2,14 @@
 use mathlib.Core.Path.{◌≡◌, refl, sym, ap, ◌∙◌, subst}
 use mathlib.Core.Bool.{Bool, true, false, cond, or-false}
 use mathlib.Core.List.{List}
-use mathlib.Core.Option.{none, some}
+use mathlib.Core.Option.{some}
 use mathlib.Core.Logic.{◌⊎◌, inl, inr, ⊎_elim}
 use Prim.Native.Nat.{ℕ, zero, suc, ◌+◌, ◌-◌, ◌*◌, ◌<◌, ◌≤◌}
 use native.Mathlib.Omega.{arith}
 use lib.Dec.{eqb, leb}
 use lib.ListN.{length, get_or}
 use borrow.Author.Tests.{eq-eqb, ne_eqb, eqb-true, eqb-false, leb-false}
+use Rattle.std.specs.Prelude.{Ok}
 use Rattle.logic.proofs.Bools.{test, by_test}
 use Rattle.sets.specs.Sets.{has, single}
 use Rattle.sets.proofs.Membership.{has_empty, has-single}
@@ -18,9 +19,8 @@ use Rattle.expression_grammar.specs.Reader.{Sign, digit, joiner, opener, closer,
 use Rattle.expression_grammar.proofs.Signs.{Is, sign_is, sign_digit}
 use Rattle.expression_grammar.proofs.Places.{byte_inside}
 use Rattle.expression_number.specs.declared.Kind.TheVariants.{Goal}
-use Rattle.expression_number.specs.declared.ReadNode.TheVariants.{Bad}
 use Rattle.expression_number.specs.Nodes.{mask_of, extra_of, found, bit, Told, Comes, Numbered}
-use Rattle.expression_number.proofs.Runs.{takes, stuck, alike}
+use Rattle.expression_number.proofs.Runs.{takes, alike}
 
 -- ---- what its node tells
 told_goal : (w v : ℕ) (rows : List ℕ) → 1 ≤ v → Words w rows → Told w (goal v) rows Goal (mask_of w v) (extra_of w v) rows
@@ -58,14 +58,6 @@ told_goal w v rows lo ws =
     large i h lt = has_empty i ∙ sym (ne_eqb (suc i) v (λ e. omega arith)) ∙ none-one (eqb (suc i) v)
 
 -- ---- the way over its digits
-starts_none : (d : ℕ) (os : List Level) (g f : Front) (b : ℕ) (c : Sign) → Is c b → ((b ≡ 40) → ⊥) → (b < 49) ⊎ (57 < b) → starts d os g f c ≡ none
-starts_none d os g f b (digit zero) i n r = refl
-starts_none d os g f b (digit (suc v)) i n r = absurd (⊎_elim (λ h. omega (arith, i.0)) (λ h. omega (arith, i.0)) r)
-starts_none d os g f b (joiner k) i n r = refl
-starts_none d os g f b opener i n r = absurd (n i)
-starts_none d os g f b closer i n r = refl
-starts_none d os g f b other i n r = refl
-
 starts_digit : (d : ℕ) (os : List Level) (g f : Front) (v : ℕ) → 1 ≤ v → starts d os g f (digit v) ≡ some (state d os g f (begun v))
 starts_digit d os g f zero lo = absurd (omega arith)
 starts_digit d os g f (suc v) lo = refl
@@ -79,16 +71,12 @@ ends-number d os g f v b closer i r = refl
 ends-number d os g f v b other i r = refl
 
 module _ (w : ℕ) (s : List ℕ) (a : ℕ) where
-  pub num_bad : ((get_or s a 0 ≡ 40) → ⊥) → (get_or s a 0 < 49) ⊎ (57 < get_or s a 0) → Numbered w s a (Bad a)
-  num_bad n h depth rows ws =
-      λ d os g f p. stuck s a (state d os g f due) (starts_none d os g f (get_or s a 0) (sign (get_or s a 0)) (sign_is (get_or s a 0)) n h) refl
-
   begins : (v : ℕ) → 1 ≤ v → v < 10 → get_or s a 0 ≡ 48 + v → (d : ℕ) (os : List Level) (g f : Front) → Comes s a (state d os g f due) (a + 1) (state d os g f (begun v))
   begins v lo hi b d os g f =
       takes s a (48 + v) (state d os g f due) (state d os g f (begun v)) (omega arith) b (ap (λ c. starts d os g f c) (sign_digit v hi) ∙ starts_digit d os g f v lo)
 
   -- one digit
-  pub num_one : (v : ℕ) → 1 ≤ v → v < 10 → get_or s a 0 ≡ 48 + v → (get_or s (a + 1) 0 < 48) ⊎ (57 < get_or s (a + 1) 0) → Numbered w s a (found w v (a + 1))
+  pub num_one : (v : ℕ) → 1 ≤ v → v < 10 → get_or s a 0 ≡ 48 + v → (get_or s (a + 1) 0 < 48) ⊎ (57 < get_or s (a + 1) 0) → Numbered w s a (Ok (found w v (a + 1)))
   num_one v lo hi b n depth rows ws =
       let lt : a < length s = byte_inside s a (48 + v) (omega arith) b in (
         goal v,
@@ -102,7 +90,7 @@ module _ (w : ℕ) (s : List ℕ) (a : ℕ) where
       )
 
   -- two digits
-  pub num_two : (v u : ℕ) → 1 ≤ v → v < 10 → u < 10 → get_or s a 0 ≡ 48 + v → get_or s (a + 1) 0 ≡ 48 + u → Numbered w s a (found w (10 * v + u) (a + 2))
+  pub num_two : (v u : ℕ) → 1 ≤ v → v < 10 → u < 10 → get_or s a 0 ≡ 48 + v → get_or s (a + 1) 0 ≡ 48 + u → Numbered w s a (Ok (found w (10 * v + u) (a + 2)))
   num_two v u lo hi hu b c depth rows ws =
       let lt : a + 1 < length s = byte_inside s (a + 1) (48 + u) (omega arith) c in
       let two : a + 1 + 1 ≡ a + 2 = omega arith in (

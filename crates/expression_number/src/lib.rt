@@ -7,7 +7,7 @@ ghost use Rattle.expression_number.specs.Nodes.{mask_of, extra_of, found, Number
 
 use graph::Graph;
 
-#[derive(Clone, Copy)]
+#[derive(Clone, Copy, Debug, PartialEq, Eq)]
 pub enum Kind {
     Goal,
     Group,
@@ -15,20 +15,15 @@ pub enum Kind {
 }
 
 // What is read: the place behind it, its kind, the goals up to 32 that stand in it, and a word that is 0 only if they stand in it once and no
-// other number does. The place stands first, as a refusal's does: so both are kept in one register.
-#[derive(Clone, Copy)]
+// other number does. A reader answers with it, or refuses with the place with which no text of the grammar goes on. The place stands first, as
+// a refusal's does: so both are kept in one register.
+#[derive(Clone, Copy, Debug, PartialEq, Eq)]
 pub struct Node {
     pub end: usize,
     pub kind: Kind,
     pub set: u32,
+    // A word, and no `bool`: a join puts together those of its members and the goals that two of them have by `|`, with no test.
     pub extra: u32,
-}
-
-// A node, or the place with which no text of the grammar goes on.
-#[derive(Drop)]
-pub enum ReadNode {
-    Read(Node),
-    Bad(usize),
 }
 
 // The set of one number: empty if it is above 32.
@@ -46,39 +41,31 @@ fn extra_of(v: usize) -> u32
     if v <= Graph::MAX { 0 } else { 1 }
 }
 
-fn goal(v: usize, end: usize) -> ReadNode
+fn goal(v: usize, end: usize) -> Node
     requires { 1 ≤ v }
     ensures { result ≡ found goal_limit v end }
 {
-    let kind = Kind::Goal;
-    let set = mask_of(v);
-    let extra = extra_of(v);
-    ReadNode::Read(Node {
-        kind,
-        set,
-        extra,
+    Node {
         end,
-    })
+        kind: Kind::Goal,
+        set: mask_of(v),
+        extra: extra_of(v),
+    }
 }
 
 // A digit 1 to 9, then at most one further digit.
-pub fn number(text: &[u8], at: usize) -> ReadNode
+pub fn number(text: &[u8], at: usize) -> Result<Node, usize>
     requires { get_or text.now at 0 ≡ 40 → ⊥ }
     ensures { Numbered goal_limit text.now at result }
 {
-    let b = buffer::byte(text, at) as usize;
-    if b < 49 {
-        return ReadNode::Bad(at);
+    let first = match buffer::byte(text, at) {
+        b @ b'1'..=b'9' => usize::from(b - b'0'),
+        _ => return Err(at),
+    };
+    let d = buffer::byte(text, at + 1);
+    if d.is_ascii_digit() {
+        Ok(goal(10 * first + usize::from(d - b'0'), at + 2))
+    } else {
+        Ok(goal(first, at + 1))
     }
-    if 57 < b {
-        return ReadNode::Bad(at);
-    }
-    let d = buffer::byte(text, at + 1) as usize;
-    if d < 48 {
-        return goal(b - 48, at + 1);
-    }
-    if 57 < d {
-        return goal(b - 48, at + 1);
-    }
-    goal(10 * (b - 48) + (d - 48), at + 2)
 }

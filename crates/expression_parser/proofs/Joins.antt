@@ -1,11 +1,12 @@
 -- The loop over the members of a sequence or a group: one law for each way through it.
-use mathlib.Core.Path.{◌≡◌, refl, ◌∙◌, subst}
-use mathlib.Core.Bool.{Bool, true, false, cond}
+use mathlib.Core.Path.{◌≡◌, refl, sym, ap, ◌∙◌}
+use mathlib.Core.Bool.{Bool, true, false, cond, true≢false}
 use mathlib.Core.List.{List}
 use mathlib.Core.Option.{none, some}
 use Prim.Native.Nat.{ℕ, ◌+◌, ◌<◌, ◌≤◌}
 use native.Mathlib.Omega.{arith}
 use lib.ListN.{length, get_or, drop}
+use Rattle.std.specs.Prelude.{Result, Ok, Err, IsErr, IsErrAnd}
 use Rattle.expression_grammar.specs.TextRules.{open_limit}
 use Rattle.sets.specs.Sets.{union}
 use Rattle.expression.specs.Expr.{Expr, one}
@@ -17,12 +18,15 @@ use Rattle.expression_grammar.proofs.Places.{byte_inside}
 use Rattle.graph.specs.Graph.{Words}
 use Rattle.graph.specs.Linking.{Linked}
 use Rattle.expression_number.specs.declared.Node.{Node}
-use Rattle.expression_number.specs.declared.ReadNode.{ReadNode}
-use Rattle.expression_number.specs.declared.ReadNode.TheVariants.{Read, Bad}
 use Rattle.expression_number.specs.Nodes.{Comes, Answer, Primary}
 use Rattle.expression_number.proofs.Runs.{takes, alike}
 use Rattle.expression_parser.specs.Readers.{within, NoAnd, NoMark, Group, Sequence}
 use Rattle.expression_parser.proofs.Tells.{join_kind, FrontTold, Links, links_sequence, links_group, clash, told_alone, told_push, told_close}
+
+-- ---- what `?` hands on
+pub handed_on : (r : Result Node ℕ) (p : ℕ) → IsErr r × IsErrAnd r (λ q. q ≡ p) → r ≡ Err p
+handed_on (Ok n) p h = absurd (true≢false (sym h.0))
+handed_on (Err q) p h = ap Err h.1
 
 -- ---- what the next byte is not
 abbrev Stop : Bool → ℕ → Type 0
@@ -66,19 +70,16 @@ mark_pos true = omega arith
 mark_pos false = omega arith
 
 -- ---- a member's answer, a join's answer
-abbrev MemberAnswer : ℕ → Bool → List ℕ → ℕ → ℕ → List ℕ → ReadNode → List ℕ → Type 0
+abbrev MemberAnswer : ℕ → Bool → List ℕ → ℕ → ℕ → List ℕ → Result Node ℕ → List ℕ → Type 0
 MemberAnswer w k = Answer w (λ d os g f x. within k d os g f x) (MStop k)
 
-abbrev JoinedAnswer : ℕ → Bool → List ℕ → ℕ → ℕ → List ℕ → ReadNode → List ℕ → Type 0
+abbrev JoinedAnswer : ℕ → Bool → List ℕ → ℕ → ℕ → List ℕ → Result Node ℕ → List ℕ → Type 0
 JoinedAnswer w k = Answer w (λ d os g f x. within k d os g none x) (Stop k)
 
 module _ (w : ℕ) (s : List ℕ) (a depth : ℕ) (rows : List ℕ) where
-  group_member : (r : ReadNode) (now : List ℕ) → Group w s a depth rows r now → MemberAnswer w true s a depth rows r now
-  group_member (Bad p) now h = λ d os g f q. h d os f f q
-  group_member (Read n) now h = (h.0, h.1, h.2, h.3, h.4, λ d os g f q. h.5 d os f f q)
-
-  pub group_words : (r : ReadNode) (n : Node) (now : List ℕ) → Group w s a depth rows r now → r ≡ Read n → Words w now
-  group_words r n now h q = (subst (λ z. Group w s a depth rows z now) q h).4.words
+  group_member : (r : Result Node ℕ) (now : List ℕ) → Group w s a depth rows r now → MemberAnswer w true s a depth rows r now
+  group_member (Err p) now h = λ d os g f q. h d os f f q
+  group_member (Ok n) now h = (h.0, h.1, h.2, h.3, h.4, λ d os g f q. h.5 d os f f q)
 
 -- ---- the loop over the members of a join
 abbrev Shape : ℕ → ℕ → Front → Type 0
@@ -100,39 +101,31 @@ loop_start w k s depth a rows ws = record { front = none; from = omega arith; sh
 -- a member is read at the place a, and put behind those before it where the join is a sequence
 pub record Turn (w : ℕ) (k : Bool) (s : List ℕ) (depth a₀ a : ℕ) (rows₀ : List ℕ) (set extra : ℕ) (rows : List ℕ) (n : Node) (mid now : List ℕ) : Type 0 where
   pub loop : Looped w k s depth a₀ a rows₀ set extra rows
-  pub member : MemberAnswer w k s a depth rows (Read n) mid
+  pub member : MemberAnswer w k s a depth rows (Ok n) mid
   pub links : Links w k set n.set mid now
 
 module _ {w depth a₀ a : ℕ} {s rows₀ rows : List ℕ} {set extra : ℕ} where
-  refuses : (k : Bool) (p : ℕ) (mid : List ℕ) → Looped w k s depth a₀ a rows₀ set extra rows → MemberAnswer w k s a depth rows (Bad p) mid
-      → JoinedAnswer w k s a₀ depth rows₀ (Bad p) mid
+  refuses : (k : Bool) (p : ℕ) (mid : List ℕ) → Looped w k s depth a₀ a rows₀ set extra rows → MemberAnswer w k s a depth rows (Err p) mid
+      → JoinedAnswer w k s a₀ depth rows₀ (Err p) mid
   refuses k p mid l h = λ d os g f q. l.comes d os g q ∙ h d os g l.front q
 
-  pub group_bad : Looped w false s depth a₀ a rows₀ set extra rows → (r : ReadNode) (p : ℕ) (mid : List ℕ) → Primary w s a depth rows r mid → r ≡ Bad p → Group w s a₀ depth rows₀ (Bad p) mid
-  group_bad l r p mid h q = refuses false p mid l (subst (λ z. Primary w s a depth rows z mid) q h)
+  pub group_bad : Looped w false s depth a₀ a rows₀ set extra rows → (p : ℕ) (mid : List ℕ) → Primary w s a depth rows (Err p) mid → Group w s a₀ depth rows₀ (Err p) mid
+  group_bad l p mid h = refuses false p mid l h
 
-  pub sequence_bad : Looped w true s depth a₀ a rows₀ set extra rows → (r : ReadNode) (p : ℕ) (mid : List ℕ) → Group w s a depth rows r mid → r ≡ Bad p
-      → Sequence w s a₀ depth rows₀ (Bad p) mid
-  sequence_bad l r p mid h q = refuses true p mid l (group_member w s a depth rows (Bad p) mid (subst (λ z. Group w s a depth rows z mid) q h))
+  pub sequence_bad : Looped w true s depth a₀ a rows₀ set extra rows → (p : ℕ) (mid : List ℕ) → Group w s a depth rows (Err p) mid → Sequence w s a₀ depth rows₀ (Err p) mid
+  sequence_bad l p mid h = refuses true p mid l (group_member w s a depth rows (Err p) mid h)
 
-  pub group_turn : Looped w false s depth a₀ a rows₀ set extra rows → (r : ReadNode) (n : Node) (mid : List ℕ) → Primary w s a depth rows r mid → r ≡ Read n
+  pub group_turn : Looped w false s depth a₀ a rows₀ set extra rows → (n : Node) (mid : List ℕ) → Primary w s a depth rows (Ok n) mid
       → Turn w false s depth a₀ a rows₀ set extra rows n mid mid
-  group_turn l r n mid h q =
-      let m : Primary w s a depth rows (Read n) mid = subst (λ z. Primary w s a depth rows z mid) q h in
-      record { loop = l; member = m; links = links_group w set n.set mid m.4.words }
+  group_turn l n mid h = record { loop = l; member = h; links = links_group w set n.set mid h.4.words }
 
-  pub sequence_turn : Looped w true s depth a₀ a rows₀ set extra rows → (r : ReadNode) (n : Node) (mid now : List ℕ) → Group w s a depth rows r mid → r ≡ Read n
-      → Linked w n.set set mid now → Turn w true s depth a₀ a rows₀ set extra rows n mid now
-  sequence_turn l r n mid now h q k =
-      record {
-        loop = l;
-        member = group_member w s a depth rows (Read n) mid (subst (λ z. Group w s a depth rows z mid) q h);
-        links = links_sequence w set n.set mid now k;
-      }
+  pub sequence_turn : Looped w true s depth a₀ a rows₀ set extra rows → (n : Node) (mid now : List ℕ) → Group w s a depth rows (Ok n) mid → Linked w n.set set mid now
+      → Turn w true s depth a₀ a rows₀ set extra rows n mid now
+  sequence_turn l n mid now h k = record { loop = l; member = group_member w s a depth rows (Ok n) mid h; links = links_sequence w set n.set mid now k }
 
 -- the node of the members read, with that of the last
-abbrev joined : Bool → ℕ → ℕ → Node → ReadNode
-joined k set extra n = Read (record { kind = join_kind k; set = union set n.set; extra = clash extra n.extra set n.set; end = n.end })
+abbrev joined : Bool → ℕ → ℕ → Node → Result Node ℕ
+joined k set extra n = Ok (record { kind = join_kind k; set = union set n.set; extra = clash extra n.extra set n.set; end = n.end })
 
 module _ {w : ℕ} {k : Bool} {s : List ℕ} {depth a₀ a : ℕ} {rows₀ : List ℕ} {set extra : ℕ} {rows : List ℕ} {n : Node} {mid now : List ℕ}
     (u : Turn w k s depth a₀ a rows₀ set extra rows n mid now) where
@@ -165,11 +158,11 @@ module _ {w : ℕ} {k : Bool} {s : List ℕ} {depth a₀ a : ℕ} {rows₀ : Lis
       (settles k d os g f x (get_or s n.end 0) (sign (get_or s n.end 0)) (sign_is (get_or s n.end 0)) (stop k (get_or s n.end 0) u.member.3 b)) (ends_alike k os g f x n.end)
 
   -- the first member is the only one: it is the join
-  pub turn_one : a ≡ a₀ → ((get_or s n.end 0 ≡ mark k) → ⊥) → JoinedAnswer w k s a₀ depth rows₀ (Read n) now
+  pub turn_one : a ≡ a₀ → ((get_or s n.end 0 ≡ mark k) → ⊥) → JoinedAnswer w k s a₀ depth rows₀ (Ok n) now
   turn_one same b = go u.loop.front u.loop.shape u.loop.told u.loop.comes
     where
       go : (f : Front) → Shape a₀ a f → FrontTold w k f rows₀ set extra rows → ((d : ℕ) (os : List Level) (g : Front) → d + depth ≡ open_limit → Comes s a₀ (within k d os g none due) a (within k d os g f due))
-          → JoinedAnswer w k s a₀ depth rows₀ (Read n) now
+          → JoinedAnswer w k s a₀ depth rows₀ (Ok n) now
       go none sh td cm =
           let m = u.member in (
             m.0,

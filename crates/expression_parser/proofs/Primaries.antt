@@ -1,20 +1,18 @@
 -- A sequence in parentheses and the whole text: one law for each way out.
-use mathlib.Core.Path.{◌≡◌, refl, ap, ◌∙◌, subst}
+use mathlib.Core.Path.{◌≡◌, refl, ap, ◌∙◌}
 use mathlib.Core.Bool.{true, false}
 use mathlib.Core.List.{List, [], ◌∷◌}
 use mathlib.Core.Option.{none}
 use Prim.Native.Nat.{ℕ, zero, suc, ◌+◌, ◌<◌, ◌≤◌}
 use native.Mathlib.Omega.{arith}
 use lib.ListN.{length, get_or, drop}
+use Rattle.std.specs.Prelude.{Ok, Err}
 use Rattle.expression_grammar.specs.TextRules.{open_limit}
 use Rattle.expression.specs.Expr.{Expr}
 use Rattle.expression_grammar.specs.Reader.{Sign, digit, joiner, opener, closer, other, sign, Front, Level, due, done, state, goes, opens, onward, run}
 use Rattle.expression_grammar.proofs.Signs.{Is, sign_is}
-use Rattle.expression_grammar.proofs.Sound.{next}
 use Rattle.expression_grammar.proofs.Places.{byte_inside}
 use Rattle.expression_number.specs.declared.Node.{Node}
-use Rattle.expression_number.specs.declared.ReadNode.{ReadNode}
-use Rattle.expression_number.specs.declared.ReadNode.TheVariants.{Read, Bad}
 use Rattle.expression_number.specs.Nodes.{Comes, Refuses, Primary}
 use Rattle.expression_number.proofs.Runs.{takes, stuck, run_at, run_end}
 use Rattle.expression_parser.specs.Readers.{NoMark, Sequence, Parsed}
@@ -36,41 +34,27 @@ abbrev level : Front → Front → Level
 level g f = record { groups = g; primaries = f }
 
 module _ (w : ℕ) (s : List ℕ) (a depth : ℕ) (rows : List ℕ) (byte : get_or s a 0 ≡ 40) where
-  pub pri_deep : open_limit ≤ depth → Primary w s a depth rows (Bad a) rows
-  pri_deep le = λ d os g f p. stuck s a (state d os g f due) (ap (λ b. next (state d os g f due) b) byte ∙ opens-none d os g f (omega arith)) refl
-
   opened : (d : ℕ) (os : List Level) (g f : Front) → Comes s a (state (suc d) os g f due) (a + 1) (state d (level g f ∷ os) none none due)
   opened d os g f = takes s a 40 (state (suc d) os g f due) (state d (level g f ∷ os) none none due) (omega arith) byte refl
 
-  pub pri_bad : depth < open_limit → (r : ReadNode) (p : ℕ) (now : List ℕ) → Sequence w s (a + 1) (depth + 1) rows r now → r ≡ Bad p → Primary w s a depth rows (Bad p) now
-  pri_bad less r p now h q = λ d. go d
+  pub pri_bad : depth < open_limit → (p : ℕ) (now : List ℕ) → Sequence w s (a + 1) (depth + 1) rows (Err p) now → Primary w s a depth rows (Err p) now
+  pri_bad less p now h = λ d. go d
     where
-      h' : Sequence w s (a + 1) (depth + 1) rows (Bad p) now
-      h' = subst (λ z. Sequence w s (a + 1) (depth + 1) rows z now) q h
-
       go : (d : ℕ) (os : List Level) (g f : Front) → d + depth ≡ open_limit → Refuses s a (state d os g f due) p
       go zero os g f e = absurd (omega arith)
-      go (suc d) os g f e = opened d os g f ∙ h' d (level g f ∷ os) none none (omega arith)
-
--- a sequence ends within the text
-pub sequence_within : (w : ℕ) (s : List ℕ) (a depth : ℕ) (rows : List ℕ) (r : ReadNode) (n : Node) (now : List ℕ) → Sequence w s a depth rows r now → r ≡ Read n → n.end ≤ length s
-sequence_within w s a depth rows r n now h q = (subst (λ z. Sequence w s a depth rows z now) q h).2
+      go (suc d) os g f e = opened d os g f ∙ h d (level g f ∷ os) none none (omega arith)
 
 -- a parenthesis is opened at the place a, and a sequence is read behind it
 pub record Inner (w : ℕ) (s : List ℕ) (a depth : ℕ) (rows : List ℕ) (n : Node) (now : List ℕ) : Type 0 where
   pub byte : get_or s a 0 ≡ 40
   pub less : depth < open_limit
-  pub part : Sequence w s (a + 1) (depth + 1) rows (Read n) now
-
-pub inner : (w : ℕ) (s : List ℕ) (a depth : ℕ) (rows : List ℕ) (n : Node) (now : List ℕ) (r : ReadNode) → get_or s a 0 ≡ 40 → depth < open_limit
-    → Sequence w s (a + 1) (depth + 1) rows r now → r ≡ Read n → Inner w s a depth rows n now
-inner w s a depth rows n now r byte less h q = record { byte = byte; less = less; part = subst (λ z. Sequence w s (a + 1) (depth + 1) rows z now) q h }
+  pub part : Sequence w s (a + 1) (depth + 1) rows (Ok n) now
 
 module _ {w : ℕ} {s : List ℕ} {a depth : ℕ} {rows : List ℕ} {n : Node} {now : List ℕ} (i : Inner w s a depth rows n now) where
   enters : (d : ℕ) (os : List Level) (g f : Front) → d + (depth + 1) ≡ open_limit → Comes s a (state (suc d) os g f due) n.end (state d (level g f ∷ os) none none (done i.part.0))
   enters d os g f p = opened w s a depth rows i.byte d os g f ∙ i.part.5 d (level g f ∷ os) none none p
 
-  pub inner_shut : get_or s n.end 0 ≡ 41 → Primary w s a depth rows (Read (record { kind = n.kind; set = n.set; extra = n.extra; end = n.end + 1 })) now
+  pub inner_shut : get_or s n.end 0 ≡ 41 → Primary w s a depth rows (Ok (record { kind = n.kind; set = n.set; extra = n.extra; end = n.end + 1 })) now
   inner_shut b =
       let lt = i.part.1 in
       let q : n.end < length s = byte_inside s n.end 41 (omega arith) b in
@@ -82,7 +66,7 @@ module _ {w : ℕ} {s : List ℕ} {a depth : ℕ} {rows : List ℕ} {n : Node} {
           enters d os g f (omega arith)
           ∙ takes s n.end 41 (state d (level g f ∷ os) none none (done i.part.0)) (state (suc d) os g f (done i.part.0)) (omega arith) b refl
 
-  pub inner_left : ((get_or s n.end 0 ≡ 41) → ⊥) → Primary w s a depth rows (Bad n.end) now
+  pub inner_left : ((get_or s n.end 0 ≡ 41) → ⊥) → Primary w s a depth rows (Err n.end) now
   inner_left b = λ d. go d
     where
       go : (d : ℕ) (os : List Level) (g f : Front) → d + depth ≡ open_limit → Refuses s a (state d os g f due) n.end
@@ -101,22 +85,18 @@ closes-none d x b opener i m = refl
 closes-none d x b closer i m = refl
 closes-none d x b other i m = refl
 
-module _ (w : ℕ) (s rows : List ℕ) (r : ReadNode) (now : List ℕ) (h : Sequence w s 0 0 rows r now) where
-  pub whole_bad : (p : ℕ) → r ≡ Bad p → Parsed w s rows (Bad p) rows
-  whole_bad p q = ((subst (λ z. Sequence w s 0 0 rows z now) q h) open_limit [] none none refl, refl)
+module _ (w : ℕ) (s rows now : List ℕ) where
+  pub whole_bad : (p : ℕ) → Sequence w s 0 0 rows (Err p) now → Parsed w s rows (Err p) rows
+  whole_bad p h = (h open_limit [] none none refl, refl)
 
-  module _ (n : Node) (q : r ≡ Read n) where
-    outer : Sequence w s 0 0 rows (Read n) now
-    outer = subst (λ z. Sequence w s 0 0 rows z now) q h
-
-    pub whole-left : n.end < length s → Parsed w s rows (Bad n.end) rows
+  module _ (n : Node) (h : Sequence w s 0 0 rows (Ok n) now) where
+    pub whole-left : n.end < length s → Parsed w s rows (Err n.end) rows
     whole-left lt = (
-      outer.5 open_limit [] none none refl
-          ∙ run_at s n.end (state open_limit [] none none (done outer.0)) lt
-          ∙ ap (λ o. onward o n.end (λ r. run (drop (suc n.end) s) (suc n.end) r)) (closes-none open_limit outer.0 (get_or s n.end 0) (sign (get_or s n.end 0)) (sign_is (get_or s n.end 0)) outer.3),
+      h.5 open_limit [] none none refl
+          ∙ run_at s n.end (state open_limit [] none none (done h.0)) lt
+          ∙ ap (λ o. onward o n.end (λ r. run (drop (suc n.end) s) (suc n.end) r)) (closes-none open_limit h.0 (get_or s n.end 0) (sign (get_or s n.end 0)) (sign_is (get_or s n.end 0)) h.3),
       refl,
     )
 
-    pub whole_done : length s ≤ n.end → Parsed w s rows (Read n) now
-    whole_done le =
-        (outer.0, outer.5 open_limit [] none none refl ∙ run_end s n.end (state open_limit [] none none (done outer.0)) le, omega (arith, outer.2), outer.4)
+    pub whole_done : length s ≤ n.end → Parsed w s rows (Ok n) now
+    whole_done le = (h.0, h.5 open_limit [] none none refl ∙ run_end s n.end (state open_limit [] none none (done h.0)) le, omega (arith, h.2), h.4)

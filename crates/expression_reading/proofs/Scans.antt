@@ -4,7 +4,7 @@ use mathlib.Core.Bool.{true, false, ◌&&◌, ◌||◌, cond, or_comm, true≢fa
 use mathlib.Core.List.{List, [], ◌∷◌}
 use mathlib.Core.Option.{none, some}
 use mathlib.Core.Logic.{⊎_elim, dite}
-use Prim.Native.Nat.{ℕ, suc, ◌+◌, ◌-◌, ◌*◌, ◌<◌, ◌≤◌}
+use Prim.Native.Nat.{ℕ, suc, ◌+◌, ◌-◌, ◌<◌, ◌≤◌}
 use native.Mathlib.Omega.{arith}
 use native.Mathlib.Decide.{dec_lt}
 use native.Mathlib.Numerals.{add-one, add-two}
@@ -18,7 +18,7 @@ use Rattle.expression_grammar.specs.Reader.{Sign, digit, joiner, opener, closer,
 use Rattle.expression_grammar.specs.Numbers.{Found, found, fresh, grown, scan, numbers, among, fault}
 use Rattle.expression_grammar.proofs.Signs.{Is, sign_is, sign_digit}
 use Rattle.expression_number.proofs.Runs.{drop_at}
-use Rattle.expression_reading.specs.declared.Spot.TheVariants.{At, Nowhere}
+use Rattle.std.specs.Prelude.{Some}
 use Rattle.expression_reading.specs.TextReading.{is_digit, found_at, value_at, spot, fault_in}
 
 -- ---- one number
@@ -44,14 +44,6 @@ pub digit_is : (b : ℕ) → is_digit b ≡ true → (48 ≤ b) × (b ≤ 57)
 digit_is b h = let p = and-true (leb 48 b) (leb b 57) h in (leb-true 48 b p.0, leb-true b 57 p.1)
 
 module _ (s : List ℕ) (a : ℕ) where
-  pub value-two : (v w : ℕ) → get_or s a 0 ≡ 48 + v → get_or s (a + 1) 0 ≡ 48 + w → w < 10 → value_at s a ≡ 10 * v + w
-  value-two v w e f h =
-      let c : get_or s a 0 - 48 ≡ v = omega arith in
-      ap₂ (λ x y. (grown (found x a) y).value) c (ap (λ z. sign z) f ∙ sign_digit w h)
-
-  pub value-one : is_digit (get_or s (a + 1) 0) ≡ false → value_at s a ≡ get_or s a 0 - 48
-  value-one h = ap (λ z. z.value) (grown_other (found (get_or s a 0 - 48) a) (get_or s (a + 1) 0) (sign (get_or s (a + 1) 0)) (sign_is (get_or s (a + 1) 0)) h)
-
   after_digit : (x : Found) → scan (drop (suc a) s) (suc a) (some x) ≡ grown x (sign (get_or s (a + 1) 0)) ∷ scan (drop (a + 2) s) (a + 2) none
   after_digit x =
       rw (add-one a, add-two a)
@@ -93,9 +85,6 @@ pub scanned_start : (n : ℕ) (s : List ℕ) → Scanned n s 0 0
 scanned_start n s = record { list = []; met_is = λ v h. has_empty v; from = refl }
 
 module _ (n : ℕ) (s : List ℕ) (at met : ℕ) (h : Scanned n s at met) where
-  pub scanned_end : length s ≤ at → fault_in n s ≡ Nowhere
-  scanned_end le = ap spot (h.from ∙ ap (λ t. fault n h.list (scan t at none)) (drop_of_length-le s {i = at} le))
-
   pub scanned_skip : at < length s → is_digit (get_or s at 0) ≡ false → Scanned n s (at + 1) met
   scanned_skip lt e = record { list = h.list; met_is = h.met_is; from = h.from ∙ ap (λ l. fault n h.list l) (scan_other s at lt e) }
 
@@ -108,11 +97,11 @@ module _ (n : ℕ) (s : List ℕ) (at met : ℕ) (h : Scanned n s at met) where
         h.from ∙ ap (λ l. fault n h.list l) (scan_digit s at lt (digit_is (get_or s at 0) is).0 (digit_is (get_or s at 0) is).1)
         ∙ ap (λ p. cond (ltb n v || among v h.list) (some p) (fault n (v ∷ h.list) (scan (drop (at + 2) s) (at + 2) none))) (grown-place (found (get_or s at 0 - 48) at) (sign (get_or s (at + 1) 0)))
 
-    pub scanned_above : n < v → fault_in n s ≡ At at
+    pub scanned_above : n < v → fault_in n s ≡ Some at
     scanned_above a = ap spot (here ∙ ap (λ b. cond (b || among v h.list) (some at) (fault n (v ∷ h.list) (scan (drop (at + 2) s) (at + 2) none))) (lt-ltb n v a))
 
     module _ (le : v ≤ n) where
-      pub scanned_met : has met v ≡ true → fault_in n s ≡ At at
+      pub scanned_met : has met v ≡ true → fault_in n s ≡ Some at
       scanned_met t =
           ap spot (here ∙ ap₂ (λ b c. cond (b || c) (some at) (fault n (v ∷ h.list) (scan (drop (at + 2) s) (at + 2) none))) (le-ltb n v le) (sym (h.met_is v le) ∙ t))
 

@@ -8,13 +8,14 @@ use Prim.Native.Nat.{ℕ, zero, suc, ◌^◌, ◌<◌, ◌≤◌}
 use native.Mathlib.Omega.{arith}
 use native.Mathlib.Decide.{dec_lt}
 use lib.Dec.{ltb}
-use lib.ListN.{length, get_or, replicate, get_or-replicate}
+use lib.ListN.{length, get_or, get_or-replicate}
 use borrow.Author.Tests.{leb-true, le-leb, lt-leb, lt-ltb, le-ltb, ltb-true}
 use Rattle.logic.proofs.Bools.{test, is_false}
 use Rattle.sets.specs.Sets.{goal_limit, has, subset, below}
 use Rattle.sets.proofs.Membership.{has_empty, has-below, member_below, none_empty, subset-has, has-subset}
 use Rattle.sets.proofs.Builder.{members_lt}
-use Rattle.graph.specs.Graph.{has_goal, behind, goals_of, rows_of, Within, transposed, Words}
+use Rattle.graph.specs.declared.Graph.{Graph}
+use Rattle.graph.specs.Graph.{edgeless, has_goal, behind, goals_of, rows_of, Within, transposed, Words}
 use Rattle.graph.proofs.Rows.{goals_ext, rows_ext, rows_within, transposed-turned}
 use Rattle.expression.specs.Search.{or_else}
 use Rattle.expression.specs.Expr.{Expr, times, stands, before, UsesOnce}
@@ -26,21 +27,18 @@ use Rattle.expression_grammar.specs.TextRules.{expression_limit, open_limit, num
 use Rattle.expression_grammar.proofs.Decides.{read_accepts}
 use Rattle.expression_grammar.proofs.Goals.{count, values, count-goals, text-goals, fault_good, missing-none, none-missing, misuse-none}
 use Rattle.expression_number.specs.declared.Node.{Node}
-use Rattle.expression_number.specs.declared.ReadNode.{ReadNode}
-use Rattle.expression_number.specs.declared.ReadNode.TheVariants.{Read as Done, Bad}
 use Rattle.expression_number.specs.Nodes.{bit}
 use Rattle.expression_parser.specs.Readers.{Parsed}
-use Rattle.record_rules.specs.declared.Reading.TheVariants.{Fine}
-use Rattle.expression_reading.specs.declared.TextReading.{TextReading}
-use Rattle.expression_reading.specs.declared.Spot.{Spot}
-use Rattle.expression_reading.specs.declared.Spot.TheVariants.{At, Nowhere}
+use Rattle.record_rules.specs.declared.Refusal.{Refusal}
+use Rattle.expression_reading.specs.declared.Drawn.{Drawn}
+use Rattle.std.specs.Prelude.{Result, Ok, Err, None, Some}
 use Rattle.expression_reading.specs.TextReading.{spot, fault_in, Counted, text_answer}
 
-spot-none : (o : Option ℕ) → Nowhere ≡ spot o → o ≡ none
+spot-none : (o : Option ℕ) → None ≡ spot o → o ≡ none
 spot-none none h = refl
 spot-none (some p) h = cc
 
-spot_some : (o : Option ℕ) (p : ℕ) → At p ≡ spot o → o ≡ some p
+spot_some : (o : Option ℕ) (p : ℕ) → Some p ≡ spot o → o ≡ some p
 spot_some none p h = cc
 spot_some (some q) p h = let e : p ≡ q = cc in ap (λ z. some z) (sym e)
 
@@ -85,7 +83,7 @@ module _ (w n : ℕ) (few : n ≤ w) (s : List ℕ) (set extra : ℕ) (h : Count
   first-none none b q = refl
   first-none (some p) b q = cc
 
-  pub fault-none : Nowhere ≡ fault_in n s
+  pub fault-none : None ≡ fault_in n s
   fault-none =
       sym (ap spot (first-none (fault n [] (numbers s)) (cond (missing n h.0) (some (length s)) none) ((misuse-none open_limit n s h.0 ((read_accepts open_limit s h.0).0 h.1)).1 uses)))
 
@@ -127,6 +125,9 @@ module _ (w n : ℕ) (x : Expr) (set : ℕ) (now : List ℕ) (few : n ≤ w) (mo
   rows_are : transposed w n now ≡ rows_of w n (before x)
   rows_are = transposed-turned w n (before x) now few turned_are
 
+abbrev drawn : ℕ → List ℕ → ℕ → Result Drawn Refusal
+drawn n rows met = Ok (record { graph = record { n = n; rows = rows }; met = met })
+
 module _ (n : ℕ) (s : List ℕ) where
   pub text_short : length s < 1 → refused 15 0 ≡ read_text n s
   unfolding read_text
@@ -141,28 +142,25 @@ module _ (n : ℕ) (s : List ℕ) where
     unfolding read_text
     sized = rw (le-leb 1 (length s) lo, le-leb (length s) expression_limit hi)
 
-    module _ (r : ReadNode) (now : List ℕ) (h : Parsed goal_limit s (replicate goal_limit 0) r now) where
-      pub text_bad : (p : ℕ) → r ≡ Bad p → refused 16 p ≡ read_text n s
-      text_bad p e = sym (sized ∙ ap (λ z. decided n s z) (subst (λ z. Parsed goal_limit s (replicate goal_limit 0) z now) e h).0)
+    module _ (g : Graph) (blank : g ≡ edgeless n) (now : List ℕ) where
+      pub text_bad : (p : ℕ) → Parsed goal_limit s g.rows (Err p) now → refused 16 p ≡ read_text n s
+      text_bad p h = sym (sized ∙ ap (λ z. decided n s z) h.0)
 
-      module _ (nd : Node) (q : r ≡ Done nd) where
-        parsed : Parsed goal_limit s (replicate goal_limit 0) (Done nd) now
-        parsed = subst (λ z. Parsed goal_limit s (replicate goal_limit 0) z now) q h
-
+      module _ (nd : Node) (parsed : Parsed goal_limit s g.rows (Ok nd) now) where
         whole-read : read_text n s ≡ numbered parsed.0 (misuse n s parsed.0)
         whole-read = sized ∙ ap (λ z. decided n s z) parsed.1
 
         pub counted : Counted goal_limit s nd.set nd.extra
         counted = (parsed.0, parsed.1, parsed.3.stand, parsed.3.once)
 
-        pub text-fault : (v : Spot) (p : ℕ) → v ≡ fault_in n s → v ≡ At p → refused 17 p ≡ read_text n s
-        text-fault v p f g =
-            let m : misuse n s parsed.0 ≡ some p = rw (spot_some (fault n [] (numbers s)) p (sym g ∙ f)) in
+        pub text-fault : (p : ℕ) → Some p ≡ fault_in n s → refused 17 p ≡ read_text n s
+        text-fault p f =
+            let m : misuse n s parsed.0 ≡ some p = rw (spot_some (fault n [] (numbers s)) p f) in
             sym (whole-read ∙ ap (λ o. numbered parsed.0 o) m)
 
-        module _ (few : n ≤ goal_limit) (v : Spot) (f : v ≡ fault_in n s) (g : v ≡ Nowhere) where
+        module _ (few : n ≤ goal_limit) (f : None ≡ fault_in n s) where
           misused : (b : Bool) → missing n parsed.0 ≡ b → misuse n s parsed.0 ≡ cond b (some (length s)) none
-          misused b e = rw (spot-none (fault n [] (numbers s)) (sym g ∙ f)) (ap (λ z. cond z (some (length s)) none) e)
+          misused b e = rw (spot-none (fault n [] (numbers s)) f) (ap (λ z. cond z (some (length s)) none) e)
 
           pub text_lacks : subset (below n) nd.set ≡ false → refused 17 (length s) ≡ read_text n s
           text_lacks l =
@@ -170,21 +168,23 @@ module _ (n : ℕ) (s : List ℕ) where
 
           module _ (small : nd.set < 2 ^ 32) where
             most : (v : ℕ) → stands parsed.0 v ≡ true → v ≤ n
-            most v e = low n s parsed.0 parsed.1 (spot-none (fault n [] (numbers s)) (sym g ∙ f)) v e
+            most v e = low n s parsed.0 parsed.1 (spot-none (fault n [] (numbers s)) f) v e
 
             order : (i j : ℕ) → i < goal_limit → j < goal_limit → behind now (suc i) (suc j) ≡ before parsed.0 (suc i) (suc j)
             order i j a b =
-                parsed.3.order i j a b ∙ ap (λ z. z || before parsed.0 (suc i) (suc j)) (ap (λ z. has z i) (get_or-replicate goal_limit j 0 0 b) ∙ has_empty i)
+                parsed.3.order i j a b
+                ∙ ap (λ z. z || before parsed.0 (suc i) (suc j)) (ap (λ x. behind x.rows (suc i) (suc j)) blank ∙ ap (λ z. has z i) (get_or-replicate goal_limit j 0 0 b) ∙ has_empty i)
 
             -- the rows are turned round
             pub text-within : Within goal_limit n now
             text-within = turned-within goal_limit n parsed.0 nd.set now few most small parsed.3.stand order parsed.3.words
 
             pub text_done : subset (below n) nd.set ≡ true → (rows : List ℕ) → rows ≡ transposed goal_limit n now
-                → ◌≡◌ {A = TextReading} (record { outcome = Fine; graph = record { n = n; rows = rows }; met = nd.set }) (text_answer n (read_text n s))
+                → ◌≡◌ {A = Result Drawn Refusal} (Ok (record { graph = record { n = g.n; rows = rows }; met = nd.set })) (text_answer n (read_text n s))
             text_done l rows e =
                 let w = parsed.3.words in
-                ap₂ (λ a b. record { outcome = Fine; graph = record { n = n; rows = a }; met = b })
+                ap (λ x. drawn x.n rows nd.set) blank
+                ∙ ap₂ (λ a b. drawn n a b)
                 (e ∙ rows_are goal_limit n parsed.0 nd.set now few most small parsed.3.stand order w)
                 (met_is goal_limit n parsed.0 nd.set now few most small parsed.3.stand order w)
                 ∙ sym (ap (λ z. text_answer n z) (whole-read ∙ ap (λ o. numbered parsed.0 o) (misused false (all_there goal_limit n parsed.0 nd.set few parsed.3.stand l))))

@@ -1,11 +1,11 @@
 -- Two relations that agree on the goals have the same N and the same form; so the rows of a record's order settle what its order settles.
+use Rattle.std.specs.Prelude.{Ok}
 use mathlib.Core.Path.{◌≡◌, refl, sym, ap, ap₂, ◌∙◌, subst}
 use mathlib.Core.Bool.{Bool}
 use mathlib.Core.List.{List}
 use mathlib.Core.Option.{Option, none, some}
 use Prim.Native.Nat.{ℕ, ◌≤◌}
 use Rattle.sets.specs.Sets.{goal_limit}
-use Rattle.record_rules.specs.declared.Reading.TheVariants.{Fine}
 use Rattle.record_rules.specs.Reading.{reading}
 use Rattle.record_fields.specs.Fields.{goal_count}
 use Rattle.record.proofs.WellFormed.{fine_well_formed}
@@ -84,7 +84,7 @@ module _ (R Q : ℕ → ℕ → Bool) (n : ℕ) (agree : (i j : ℕ) → Goals n
       go (some q) e = thirteen_some (text (form_any R n)) q e ∙ sym (thirteen_some (text (form Q n)) q (sym first-same ∙ e))
 
 -- ---- the rows of a record's order
-module _ (b : List ℕ) (fine : reading b ≡ Fine) where
+module _ (b : List ℕ) (fine : reading b ≡ Ok tt) where
   pub goals_from : 1 ≤ goal_count b
   goals_from = (fine_well_formed b fine).goals_from
 

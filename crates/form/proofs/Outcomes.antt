@@ -1,4 +1,5 @@
 -- What writing the form answers, by what reading and the search for an N give; and the form's length.
+use Rattle.std.specs.Prelude.{Ok, Err}
 use mathlib.Core.Path.{◌≡◌, refl, sym, ap, ap₂, ◌∙◌}
 use mathlib.Core.Bool.{Bool, cond}
 use mathlib.Core.List.{List, ◌++◌}
@@ -9,17 +10,18 @@ use lib.ListN.{length, take, drop, length-append}
 use lib.Seq.{take_at}
 use Rattle.buffer.specs.Lent.{stored}
 use Rattle.buffer.proofs.Lent.{fits_le}
-use Rattle.record_rules.specs.declared.Reading.TheVariants.{Fine, Refused}
 use Rattle.record_rules.specs.declared.Refusal.{Refusal}
 use Rattle.record_rules.specs.Reading.{reading}
 use Rattle.record_rules.specs.Outcome.{Outcome, refused, accepted, next, size_in, buffer_after, values}
-use Rattle.record_rules.proofs.Outcomes.{told_apart, one_value, one_refusal, read-refused, read-fine, size_fits}
+use Rattle.record_rules.proofs.Outcomes.{told_apart, one_value, one_refusal, read-refused, read-fine, size_fits, same_answer, same_buffer}
 use Rattle.record_fields.specs.Fields.{goal_count}
 use Rattle.expression.specs.Search.{Four}
 use Rattle.expression.specs.Form.{form}
 use Rattle.expression.specs.Text as T
 use Rattle.order.specs.Order.{before}
-use Rattle.form.specs.Form.{or_thirteen, first_four, form_text, shown}
+use Rattle.form.specs.declared.FormError.{FormError}
+use Rattle.form.specs.declared.FormError.TheVariants as W
+use Rattle.form.specs.Form.{or_thirteen, first_four, form_text, shown, outcome}
 
 -- ---- the search's answer
 module _ {o : Option Four} (t : List ℕ) where
@@ -31,19 +33,19 @@ module _ {o : Option Four} (t : List ℕ) where
 
 -- ---- a refused record, and an accepted one
 module _ (b : List ℕ) where
-  pub form-refused : (r : Refusal) → reading b ≡ Refused r → form_text b ≡ refused r.number r.place
+  pub form-refused : (r : Refusal) → reading b ≡ Err r → form_text b ≡ refused r.number r.place
   unfolding form_text
   form-refused r e = sym (read-refused b _ r refl e)
 
-  pub form-fine : reading b ≡ Fine → form_text b ≡ or_thirteen (first_four b) (T.text (form (before b) (goal_count b)))
+  pub form-fine : reading b ≡ Ok tt → form_text b ≡ or_thirteen (first_four b) (T.text (form (before b) (goal_count b)))
   unfolding form_text
   form-fine e = sym (read-fine b _ refl e)
 
-  pub shown-refused : (r : Refusal) → reading b ≡ Refused r → shown b ≡ none
+  pub shown-refused : (r : Refusal) → reading b ≡ Err r → shown b ≡ none
   unfolding shown
   shown-refused r e = sym (ap (λ (o : Outcome (Option Four)). (values none o).value) (read-refused b _ r refl e))
 
-  pub shown-fine : reading b ≡ Fine → shown b ≡ first_four b
+  pub shown-fine : reading b ≡ Ok tt → shown b ≡ first_four b
   unfolding shown
   shown-fine e = sym (ap (λ (o : Outcome (Option Four)). (values none o).value) (read-fine b _ refl e))
 
@@ -81,3 +83,9 @@ held-refused (accepted t) buf h e = absurd (told_apart (e ∙ sym (size_fits t b
 pub held-length : (x : Outcome (List ℕ)) (buf : List ℕ) → Held x buf → size_in x buf ≡ next x (λ t. accepted (length t))
 held-length (refused k p) buf h = refl
 held-length (accepted t) buf h = sym (size_fits t buf refl (h t refl))
+
+-- what no text was written for into such a buffer is answered whatever the buffer, which stays as it was
+pub held-error : (x : Outcome (List ℕ)) (space buf : List ℕ) → Held x space → (e : FormError) → outcome (Err e) ≡ size_in x space
+    → (outcome (Err e) ≡ size_in x buf) × (buf ≡ buffer_after x buf)
+held-error x space buf h (W.NoForm q) e = let r = held-refused x space h e in (same_answer buf r, same_buffer buf r)
+held-error x space buf h (W.Refused q) e = let r = held-refused x space h e in (same_answer buf r, same_buffer buf r)

@@ -6,6 +6,7 @@
 -- specs/Demand.antt. The length estimate is exact (`length_exact`).
 pub use Rattle.order.proofs.Theorems.{before_is, before-order, before-closed}
 pub use Rattle.expression.proofs.Theorems.{first_n_is, no_n_is}
+use Rattle.std.specs.Prelude.{Ok, Err}
 use mathlib.Core.Path.{◌≡◌, refl, sym, ap, ◌∙◌, subst}
 use mathlib.Core.Bool.{Bool, true, false, ◌||◌, cond, true≢false}
 use mathlib.Core.List.{List, [], ◌++◌, append-nil}
@@ -33,9 +34,7 @@ use Rattle.expression.proofs.Search.{found_first, not_found}
 use Rattle.expression.proofs.Spec.{stands_in, in_times}
 use Rattle.expression.proofs.Theorems as E'
 use Rattle.expression.proofs.Theorems.{uses_once, order_no_n, no_four, n-distinct, form_is, form_unique, text-fits}
-use Rattle.record_rules.specs.declared.Reading.{Reading}
-use Rattle.record_rules.specs.declared.Reading.TheVariants.{Fine, Refused}
-use Rattle.record_rules.specs.Reading.{reading}
+use Rattle.record_rules.specs.Reading.{reading, Reading}
 use Rattle.record_rules.specs.Outcome.{Outcome, refused, accepted, next, only_if, size_in}
 use Rattle.record_rules.proofs.Outcomes.{told_apart, one_value, size_fits, size_short, buffer_short, same_answer, same_buffer}
 use Rattle.form.specs.Form.{or_thirteen, form_text, form_answer, form_length, LengthExact}
@@ -248,8 +247,8 @@ module _ (b : List ℕ) where
       searched w (some q) h = absurd (told_apart (sym (settles w ∙ thirteen_some (text (form R n)) q h) ∙ e))
 
       by_reading_of : (s : Reading) → reading b ≡ s → length t ≤ form_limit
-      by_reading_of Fine q = searched (fine_well_formed b q) (first_n R n) refl
-      by_reading_of (Refused r) q = absurd (told_apart (sym (form-refused b r q) ∙ e))
+      by_reading_of (Ok _) q = searched (fine_well_formed b q) (first_n R n) refl
+      by_reading_of (Err r) q = absurd (told_apart (sym (form-refused b r q) ∙ e))
 
   -- an array of that length holds it
   pub form-held : Held (form_text b) (replicate form_limit 0)

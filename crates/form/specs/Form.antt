@@ -1,5 +1,5 @@
 -- Writing the form and the length estimate: what is answered, and what becomes of the lent buffer (01, "What each operation turns down").
-use Rattle.std.specs.Prelude.{◌≡◌, List, ℕ, suc, length}
+use Rattle.std.specs.Prelude.{◌≡◌, List, ℕ, suc, length, Result, Ok, Err}
 use Rattle.std.proofs.Math.Option.{Option, none, some}
 use Rattle.record_fields.specs.Fields.{goal_count}
 use Rattle.record_rules.specs.Outcome.{Outcome, refused, accepted, read_then, next, values, size_in, buffer_after}
@@ -8,8 +8,8 @@ use Rattle.expression.specs.Form.{form}
 use Rattle.expression.specs.Text as T
 use Rattle.order.specs.Order.{before}
 use Rattle.form_first_n.specs.FirstN.{four}
-use Rattle.form.specs.declared.FormAnswer.{FormAnswer}
-use Rattle.form.specs.declared.FormAnswer.TheVariants as W
+use Rattle.form.specs.declared.FormError.{FormError}
+use Rattle.form.specs.declared.FormError.TheVariants as W
 
 -- 01: "13 no expression induces the order" (0): the first N decides; else the text
 abbrev pub or_thirteen : Option Four → List ℕ → Outcome (List ℕ)
@@ -36,15 +36,15 @@ abbrev pub form_buffer : List ℕ → List ℕ → List ℕ
 form_buffer b buf = buffer_after (form_text b) buf
 
 -- the outcome that the program's answer is, and its four goals
-abbrev pub outcome : FormAnswer → Outcome ℕ
-outcome (W.Done n) = accepted n
-outcome (W.NoForm q) = refused 13 0
-outcome (W.Refused r) = refused r.number r.place
+abbrev pub outcome : Result ℕ FormError → Outcome ℕ
+outcome (Ok n) = accepted n
+outcome (Err (W.NoForm q)) = refused 13 0
+outcome (Err (W.Refused r)) = refused r.number r.place
 
-abbrev pub goals : FormAnswer → Option Four
-goals (W.Done n) = none
-goals (W.NoForm q) = some (four q)
-goals (W.Refused r) = none
+abbrev pub goals : Result ℕ FormError → Option Four
+goals (Ok n) = none
+goals (Err (W.NoForm q)) = some (four q)
+goals (Err (W.Refused r)) = none
 
 -- ---- The length estimate. 02, 3: "The estimate shall be exactly the number of bytes that the form takes": refused as the text is, or its length
 abbrev pub form_length : List ℕ → Outcome ℕ

@@ -11,7 +11,7 @@ use native.Mathlib.Omega.{arith}
 use lib.Dec.{eqb}
 use lib.ListN.{get_or}
 use lib.Pow.{pow_pos}
-use borrow.Author.Tests.{eq-eqb, ne_eqb}
+use borrow.Author.Tests.{ne_eqb}
 use Rattle.logic.proofs.Bools.{is_false, and_l, and_r, and-true, or_l, or_r, not-true, or-false}
 use Rattle.sets.specs.Sets.{has, union, meet, without, single}
 use Rattle.sets.proofs.Membership.{has-union, has_meet, has-without, has-single, has_empty}
@@ -22,16 +22,13 @@ use Rattle.expression.specs.Expr.{Goals, N}
 use Rattle.expression.specs.Arrange.{Strict}
 use Rattle.expression.specs.Search.{is_n}
 use Rattle.expression.proofs.Search.{is_n_lem, n_is}
-use Rattle.form_first_n.specs.Candidates.{leading, related, seconds, fourths, thirds, lasts}
+use Rattle.graph_transpose.specs.Related.{related}
+use Rattle.form_first_n.specs.Candidates.{leading, seconds, fourths, thirds, lasts}
 use Rattle.form_first_n.proofs.Loops.{at_d, at_c, at_b, at_a}
-use Rattle.form_first_n.proofs.Scan.{Left, nowhere}
+use Rattle.form_first_n.proofs.Scan.{Left, left_start, nowhere}
 
 -- how the set of the candidates for c is found
 module _ (rows prior : List ℕ) where
-  pub thirds-none : (a b : ℕ) → fourths rows prior a b ≡ 0 → 0 ≡ thirds rows prior a b
-  unfolding thirds
-  thirds-none a b f = sym (ap (λ (t : Bool). cond t 0 (meet (get_or rows a 0) (get_or rows b 0))) (eq-eqb (fourths rows prior a b) 0 f))
-
   pub thirds_some : (a b : ℕ) → (fourths rows prior a b ≡ 0 → ⊥) → meet (get_or rows a 0) (get_or rows b 0) ≡ thirds rows prior a b
   unfolding thirds
   thirds_some a b f = sym (ap (λ (t : Bool). cond t 0 (meet (get_or rows a 0) (get_or rows b 0))) (ne_eqb (fourths rows prior a b) 0 f))
@@ -60,8 +57,20 @@ unfolding leading
 leading_lt prior zero w h = pow_pos w
 leading_lt prior (suc n) w h = union_lt w (leading prior n) (get_or prior n 0) (leading_lt prior n w h) (h n)
 
-module _ (w : ℕ) (rows prior : List ℕ) (n : ℕ) (most : n ≤ w) (turned : prior ≡ transposed w n rows) (strict : Strict (ahead rows) (Goals n))
-    (within : Within w n rows) (lead : ℕ) (led : lead ≡ leading prior n) where
+module _ (w : ℕ) (rows prior : List ℕ) (n : ℕ) (asked : (n ≤ w) × (prior ≡ transposed w n rows) × Strict (ahead rows) (Goals n) × Within w n rows)
+    (lead : ℕ) (led : lead ≡ leading prior n) where
+  most : n ≤ w
+  most = asked.0
+
+  turned : prior ≡ transposed w n rows
+  turned = asked.1
+
+  strict : Strict (ahead rows) (Goals n)
+  strict = asked.2
+
+  within : Within w n rows
+  within = asked.3
+
   abbrev R : ℕ → ℕ → Bool
   R i j = ahead rows (suc i) (suc j)
 
@@ -76,7 +85,6 @@ module _ (w : ℕ) (rows prior : List ℕ) (n : ℕ) (most : n ≤ w) (turned : 
   prior-has i j li lj = turned-has w n rows prior i j most turned li lj
 
   related-has : (i j : ℕ) → i < n → j < n → has (related rows prior i) j ≡ R i j || R j i
-  unfolding related
   related-has i j li lj = has-union (get_or rows i 0) (get_or prior i 0) j ∙ ap (λ (t : Bool). R i j || t) (prior-has i j li lj)
 
   fourths-has : (a b d : ℕ) → a < n → d < n → has (fourths rows prior a b) d ≡ R b d && not (R a d || R d a)
@@ -201,37 +209,23 @@ module _ (w : ℕ) (rows prior : List ℕ) (n : ℕ) (most : n ≤ w) (turned : 
     past-a h = past (λ x. true≢false (sym (n-first x) ∙ h))
 
   -- what the loops over a, b and c begin with
-  pub left-a : Left n (λ a. at_a (ahead rows) n a) lead lead
-  left-a =
-      record {
-        goals = lead_lt;
-        inside = λ i h. h;
-        others =
-            λ a la h.
-            nowhere n (λ b. at_b (ahead rows) n (suc a) b)
-            (λ b lb.
-            nowhere n (λ c. at_c (ahead rows) n (suc a) (suc b) c)
-            (λ c lc. nowhere n (λ d. at_d (ahead rows) n (suc a) (suc b) (suc c) d) (λ d ld. past-a a b c d la lb lc ld h)));
-      }
+  pub left-a : (set : ℕ) → set ≡ lead → Left w n (λ a. at_a (ahead rows) n a) lead set
+  left-a set e =
+      left_start w n (λ a. at_a (ahead rows) n a) most lead set lead_lt e
+      (λ a la h.
+      nowhere n (λ b. at_b (ahead rows) n (suc a) b)
+      (λ b lb.
+      nowhere n (λ c. at_c (ahead rows) n (suc a) (suc b) c)
+      (λ c lc. nowhere n (λ d. at_d (ahead rows) n (suc a) (suc b) (suc c) d) (λ d ld. past-a a b c d la lb lc ld h))))
 
-  pub left-b : (a set : ℕ) → a < n → set ≡ seconds rows prior lead a → Left n (λ b. at_b (ahead rows) n (suc a) b) (seconds rows prior lead a) set
+  pub left-b : (a set : ℕ) → a < n → set ≡ seconds rows prior lead a → Left w n (λ b. at_b (ahead rows) n (suc a) b) (seconds rows prior lead a) set
   left-b a set la e =
-      record {
-        goals = seconds_lt a;
-        inside = λ i h. ap (λ (m : ℕ). has m i) (sym e) ∙ h;
-        others =
-            λ b lb h.
-            nowhere n (λ c. at_c (ahead rows) n (suc a) (suc b) c)
-            (λ c lc.
-            nowhere n (λ d. at_d (ahead rows) n (suc a) (suc b) (suc c) d) (λ d ld. past-b a b c d la lb lc ld (ap (λ (m : ℕ). has m b) (sym e) ∙ h)));
-      }
+      left_start w n (λ b. at_b (ahead rows) n (suc a) b) most (seconds rows prior lead a) set (seconds_lt a) e
+      (λ b lb h.
+      nowhere n (λ c. at_c (ahead rows) n (suc a) (suc b) c)
+      (λ c lc. nowhere n (λ d. at_d (ahead rows) n (suc a) (suc b) (suc c) d) (λ d ld. past-b a b c d la lb lc ld h)))
 
-  pub left_c : (a b set : ℕ) → a < n → b < n → set ≡ thirds rows prior a b → Left n (λ c. at_c (ahead rows) n (suc a) (suc b) c) (thirds rows prior a b) set
+  pub left_c : (a b set : ℕ) → a < n → b < n → set ≡ thirds rows prior a b → Left w n (λ c. at_c (ahead rows) n (suc a) (suc b) c) (thirds rows prior a b) set
   left_c a b set la lb e =
-      record {
-        goals = thirds_lt a b;
-        inside = λ i h. ap (λ (m : ℕ). has m i) (sym e) ∙ h;
-        others =
-            λ c lc h.
-            nowhere n (λ d. at_d (ahead rows) n (suc a) (suc b) (suc c) d) (λ d ld. past_c a b c d la lb lc ld (ap (λ (m : ℕ). has m c) (sym e) ∙ h));
-      }
+      left_start w n (λ c. at_c (ahead rows) n (suc a) (suc b) c) most (thirds rows prior a b) set (thirds_lt a b) e
+      (λ c lc h. nowhere n (λ d. at_d (ahead rows) n (suc a) (suc b) (suc c) d) (λ d ld. past_c a b c d la lb lc ld h))

@@ -1,17 +1,17 @@
--- A loop that looks for the first answer among the goals 1 to n, by their places or by what is left of a set of candidates: place i is goal i + 1.
-use mathlib.Core.Path.{◌≡◌, sym, ap, ◌∙◌, subst}
-use mathlib.Core.Bool.{true, false}
-use mathlib.Core.Logic.{dite}
+-- A loop that looks for the first answer among the goals 1 to n, by their places or by the members of a set of candidates: place i is goal i + 1.
+use mathlib.Core.Path.{◌≡◌, refl, sym, ap, ◌∙◌, subst}
+use mathlib.Core.Bool.{Bool, true, false, cond}
+use mathlib.Core.List.{List, [], ◌∷◌}
+use mathlib.Core.Logic.{dite, inl, inr, ⊎_elim}
 use mathlib.Core.Option.{Option, none, some}
 use Prim.Native.Nat.{ℕ, zero, suc, ◌+◌, ◌-◌, ◌^◌, ◌<◌, ◌≤◌}
 use native.Mathlib.Decide.{dec_lt, ℕ_discrete}
 use native.Mathlib.Numerals.{add-one}
 use native.Mathlib.Omega.{arith}
-use lib.ListN.{length}
-use Rattle.sets.specs.Sets.{has, without, single, first, members}
-use Rattle.sets.proofs.Membership.{has_empty, first_least, first_member, member_below}
-use Rattle.sets.proofs.Members.{first_in_lem, other, fewer}
-use Rattle.sets.proofs.Builder.{members_lt}
+use Rattle.logic.proofs.Bools.{is_false}
+use Rattle.sets.specs.Sets.{has, members, members_from}
+use Rattle.sets.proofs.Membership.{member_below}
+use Rattle.sets.proofs.Members.{In, in_members, members_in}
 use Rattle.expression.specs.Search.{or_else, first_in}
 
 -- nothing was found below place i
@@ -48,50 +48,63 @@ module _ {A : Type 0} (n : ℕ) (f : ℕ → Option A) where
   pub nowhere : ((i : ℕ) → i < n → f (suc i) ≡ none) → first_in f 1 n ≡ none
   nowhere h = passed_all n (omega arith) (passed_skip n (λ i l m. h i m))
 
--- of the candidates `all` those of `set` are left: no other goal has an answer
-pub record Left {A : Type 0} (n : ℕ) (f : ℕ → Option A) (all set : ℕ) : Type 0 where
+-- the first of the members is the lowest
+head_least : (w i m x : ℕ) (r : List ℕ) → members_from w i m ≡ x ∷ r → (j : ℕ) → In j (members_from w i m) → x ≤ j
+unfolding members_from
+head_least zero i m x r e j h = absurd h
+head_least (suc w) i m x r e j h = go (has m i) e h (head_least w (suc i) m x r)
+  where
+    l : List ℕ
+    l = members_from w (suc i) m
+
+    go : (t : Bool) → cond t (i ∷ l) l ≡ x ∷ r → In j (cond t (i ∷ l) l) → (l ≡ x ∷ r → (j : ℕ) → In j l → x ≤ j) → x ≤ j
+    go true e g more = let s : i ≡ x = cc in omega (arith, (in_members (suc w) i m j h).0)
+    go false e g more = more e j g
+
+-- Of the candidates `all` the members of `set` are still to come: no other goal has an answer.
+pub record Left {A : Type 0} (w n : ℕ) (f : ℕ → Option A) (all set : ℕ) : Type 0 where
   pub goals : all < 2 ^ n
-  pub inside : (i : ℕ) → has set i ≡ true → has all i ≡ true
-  pub others : (i : ℕ) → i < n → has set i ≡ false → f (suc i) ≡ none
+  pub inside : (i : ℕ) → In i (members w set) → has all i ≡ true
+  pub others : (i : ℕ) → i < n → (In i (members w set) → ⊥) → f (suc i) ≡ none
 
-module _ {A : Type 0} (n : ℕ) (f : ℕ → Option A) (all set : ℕ) (v : Left n f all set) where
-  pub left-none : set ≡ 0 → first_in f 1 n ≡ none
-  left-none e = nowhere n f (λ i l. v.others i l (ap (λ (m : ℕ). has m i) e ∙ has_empty i))
+module _ {A : Type 0} (w n : ℕ) (f : ℕ → Option A) where
+  -- all of them
+  pub left_start : n ≤ w → (all set : ℕ) → all < 2 ^ n → set ≡ all → ((i : ℕ) → i < n → has all i ≡ false → f (suc i) ≡ none) → Left w n f all set
+  left_start most all set goals e past =
+      record {
+        goals = goals;
+        inside = λ i h. ap (λ (m : ℕ). has m i) (sym e) ∙ (in_members w 0 set i h).2;
+        others =
+            λ i l h. past i l (is_false (has all i) (λ t. h (members_in w 0 set i (omega arith) (omega arith) (ap (λ (m : ℕ). has m i) e ∙ t))));
+      }
 
-  module _ (w : ℕ) (most : n ≤ w) (some_left : set ≡ 0 → ⊥) (x : ℕ) (ex : x ≡ first w set) where
-    goal : (i : ℕ) → has set i ≡ true → i < n
-    goal i h = member_below n all i v.goals (v.inside i h)
+  module _ {all set : ℕ} (v : Left w n f all set) where
+    -- none is still to come
+    pub left-none : members w set ≡ [] → first_in f 1 n ≡ none
+    left-none e = nowhere n f (λ i l. v.others i l (λ h. let h' : In i [] = subst (In i) e h in absurd h'))
 
-    small : set < 2 ^ w
-    small = members_lt w set (λ i h. omega (arith, goal i h))
+    -- the next
+    module _ {x : ℕ} {more : List ℕ} (e : members w set ≡ x ∷ more) where
+      pub left-has : has all x ≡ true
+      left-has = v.inside x (subst (In x) (sym e) (inl refl))
 
-    here : has set x ≡ true
-    here = ap (has set) ex ∙ first_member w set (first_in_lem w set small some_left)
+      pub left_in : x < n
+      left_in = member_below n all x v.goals left-has
 
-    -- the lowest that is left
-    pub left_in : x < n
-    left_in = goal x here
+      -- it has an answer
+      pub left-hit : (q : A) → f (suc x) ≡ some q → first_in f 1 n ≡ some q
+      left-hit q y =
+          passed_hit n f q x left_in y
+          (passed_skip n f x (λ i l m. v.others i m (λ h. absurd (omega (arith, head_least w 0 set x more e i h)))))
 
-    pub left-has : has all x ≡ true
-    left-has = v.inside x here
-
-    -- it has an answer
-    pub left-hit : (q : A) → f (suc x) ≡ some q → first_in f 1 n ≡ some q
-    left-hit q e = passed_hit n f q x left_in e (passed_skip n f x (λ i l m. v.others i m (first_least w set i (omega arith))))
-
-    -- it has none
-    module _ (next : ℕ) (en : next ≡ without set (single (first w set))) where
-      same : (i : ℕ) → (x ≡ i → ⊥) → has next i ≡ has set i
-      same i h = ap (λ (m : ℕ). has m i) en ∙ other set (first w set) i (λ e. h (ex ∙ e))
-
-      pub left_more : f (suc x) ≡ none → Left n f all next
-      left_more e =
+      -- it has none
+      pub left_more : {next : ℕ} → more ≡ members w next → f (suc x) ≡ none → Left w n f all next
+      left_more {next} en y =
           record {
             goals = v.goals;
-            inside = λ i h. dite (ℕ_discrete x i) (λ s. ap (has all) (sym s) ∙ left-has) (λ s. v.inside i (sym (same i s) ∙ h));
+            inside = λ i h. v.inside i (subst (In i) (sym e) (inr (subst (In i) (sym en) h)));
             others =
-                λ i l h. dite (ℕ_discrete x i) (λ s. ap (λ (z : ℕ). f (suc z)) (sym s) ∙ e) (λ s. v.others i l (sym (same i s) ∙ h));
+                λ i l h.
+                dite (ℕ_discrete i x) (λ s. ap (λ (z : ℕ). f (suc z)) s ∙ y)
+                (λ s. v.others i l (λ t. let t' : In i (x ∷ more) = subst (In i) e t in ⊎_elim s (λ u. h (subst (In i) en u)) t'));
           }
-
-      pub left_less : length (members w next) < length (members w set)
-      left_less = rw en (fewer w set small some_left)

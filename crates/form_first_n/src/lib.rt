@@ -11,30 +11,16 @@ ghost use Rattle.form_first_n.specs.FirstN as F;
 ghost use Rattle.form_first_n.specs.Candidates as C;
 
 use graph::Graph;
+use graph_transpose::Directions;
+use sets::Set;
 
 // Four goals, by their numbers from 1 on.
-#[derive(Drop)]
+#[derive(Clone, Copy, Debug, PartialEq, Eq)]
 pub struct Four {
     pub a: usize,
     pub b: usize,
     pub c: usize,
     pub d: usize,
-}
-
-#[derive(Drop)]
-pub enum FirstN {
-    Nothing,
-    At(Four),
-}
-
-// The goals that are in order with goal i + 1, either way.
-fn related(rows: &[u32; Graph::MAX], prior: &[u32; Graph::MAX], i: usize) -> u32
-    requires { i < goal_limit }
-    ensures { result ≡ C.related rows.now prior.now i }
-{
-    let after = rows[i];
-    let before = prior[i];
-    after | before
 }
 
 // The goals that are before some goal: what can be a or b.
@@ -43,75 +29,67 @@ fn leading(prior: &[u32; Graph::MAX], n: usize) -> u32
     ensures { result ≡ C.leading prior.now n }
 {
     let mut set = 0u32;
-    for j in 0..n {
-        let before = prior[j];
-        set = sets::union32(set, before);
+    for before in &prior[..n] {
+        set = set.union(*before);
     }
     set
 }
 
 // The goals that can be b for a: of the leading ones those that are not a and not in order with a.
-fn seconds(rows: &[u32; Graph::MAX], prior: &[u32; Graph::MAX], lead: u32, a: usize) -> u32
+#[tactic(auto, unfolding(crate::specs::Candidates::seconds))]
+fn seconds(order: Directions, lead: u32, a: usize) -> u32
     requires { a < goal_limit }
-    ensures { result ≡ C.seconds rows.now prior.now lead a }
+    ensures { result ≡ C.seconds order.entry.after.now order.entry.prior.now lead a }
 {
-    let near_a = related(rows, prior, a);
-    let apart = sets::without32(lead, near_a);
-    let one = Graph::single(a + 1);
-    sets::without32(apart, one)
+    let apart = lead.without(order.related(a));
+    apart.without(Graph::single(a + 1))
 }
 
 // The goals that can be d for a, b and some c: after b, and not in order with a.
-fn fourths(rows: &[u32; Graph::MAX], prior: &[u32; Graph::MAX], a: usize, b: usize) -> u32
+#[tactic(auto, unfolding(crate::specs::Candidates::fourths))]
+fn fourths(order: Directions, a: usize, b: usize) -> u32
     requires { (a < goal_limit) × (b < goal_limit) }
-    ensures { result ≡ C.fourths rows.now prior.now a b }
+    ensures { result ≡ C.fourths order.entry.after.now order.entry.prior.now a b }
 {
-    let near_a = related(rows, prior, a);
-    sets::without32(rows[b], near_a)
+    order.after[b].without(order.related(a))
 }
 
 // The goals that can be c for a and b: after both. None if no goal can be d.
-fn thirds(rows: &[u32; Graph::MAX], prior: &[u32; Graph::MAX], a: usize, b: usize) -> u32
+#[tactic(auto, unfolding(crate::specs::Candidates::thirds))]
+fn thirds(order: Directions, a: usize, b: usize) -> u32
     requires { (a < goal_limit) × (b < goal_limit) }
-    ensures { result ≡ C.thirds rows.now prior.now a b }
+    ensures { result ≡ C.thirds order.entry.after.now order.entry.prior.now a b }
 {
-    if fourths(rows, prior, a, b) == 0 {
+    if fourths(order, a, b) == 0 {
         return 0;
     }
-    sets::meet32(rows[a], rows[b])
+    order.after[a].meet(order.after[b])
 }
 
 // The goals that are d for a, b and c: those of the candidates that are not in order with c.
-fn lasts(rows: &[u32; Graph::MAX], prior: &[u32; Graph::MAX], a: usize, b: usize, c: usize) -> u32
+#[tactic(auto, unfolding(crate::specs::Candidates::lasts))]
+fn lasts(order: Directions, a: usize, b: usize, c: usize) -> u32
     requires { (a < goal_limit) × (b < goal_limit) × (c < goal_limit) }
-    ensures { result ≡ C.lasts rows.now prior.now a b c }
+    ensures { result ≡ C.lasts order.entry.after.now order.entry.prior.now a b c }
 {
-    let ds = fourths(rows, prior, a, b);
-    let near_c = related(rows, prior, c);
-    sets::without32(ds, near_c)
+    fourths(order, a, b).without(order.related(c))
 }
 
-// The first N among the goals 1 to n of a strict order; `prior` is `rows` with every edge turned round. Four loops over the goals that can be a, b, c and d, left
+// The first N among the goals 1 to n of a strict order; `prior` is `after` with every edge turned round. Four loops over the goals that can be a, b, c and d, left
 // as soon as it is met.
-pub fn first_n(rows: &[u32; Graph::MAX], prior: &[u32; Graph::MAX], n: usize) -> FirstN
-    requires { (n ≤ goal_limit) × (prior.now ≡ transposed goal_limit n rows.now) × Strict (ahead rows.now) (Goals n) × Within goal_limit n rows.now }
-    ensures { F.found result ≡ first_n (ahead rows.now) n }
+pub fn first_n(order: Directions, n: usize) -> Option<Four>
+    requires { (n ≤ goal_limit) × (order.prior.now ≡ transposed goal_limit n order.after.now) × Strict (ahead order.after.now) (Goals n) × Within goal_limit n order.after.now }
+    ensures { F.found result ≡ first_n (ahead order.entry.after.now) n }
 {
-    let mut answer = FirstN::Nothing;
-    let lead = leading(prior, n);
-    let mut firsts = lead;
-    'found: while firsts != 0 {
-        let a = sets::first32(firsts);
-        let mut bs = seconds(rows, prior, lead, a);
-        while bs != 0 {
-            let b = sets::first32(bs);
-            let mut cs = thirds(rows, prior, a, b);
-            while cs != 0 {
-                let c = sets::first32(cs);
-                let ds = lasts(rows, prior, a, b, c);
-                for d in sets::first32(ds)..n {
-                    if sets::has32(ds, d) {
-                        answer = FirstN::At(Four {
+    let mut answer = None;
+    let lead = leading(order.prior, n);
+    'found: for a in lead.members() {
+        for b in seconds(order, lead, a).members() {
+            for c in thirds(order, a, b).members() {
+                let ds = lasts(order, a, b, c);
+                for d in ds.first()..n {
+                    if ds.has(d) {
+                        answer = Some(Four {
                             a: a + 1,
                             b: b + 1,
                             c: c + 1,
@@ -120,11 +98,8 @@ pub fn first_n(rows: &[u32; Graph::MAX], prior: &[u32; Graph::MAX], n: usize) ->
                         break 'found;
                     }
                 }
-                cs = sets::without_first32(cs);
             }
-            bs = sets::without_first32(bs);
         }
-        firsts = sets::without_first32(firsts);
     }
     answer
 }

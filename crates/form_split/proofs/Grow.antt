@@ -2,22 +2,21 @@
 -- not yet looked at; and the loop that finds the neighbours of a set.
 use mathlib.Core.Path.{◌≡◌, refl, sym, ap, ◌∙◌, subst}
 use mathlib.Core.Bool.{Bool, true, false, not, ◌&&◌, ◌||◌, cond, or_assoc, false≢true}
-use mathlib.Core.List.{List}
+use mathlib.Core.List.{List, [], ◌∷◌}
 use mathlib.Core.Logic.{◌⊎◌, inl, inr, ⊎_elim}
 use Prim.Native.Nat.{ℕ, zero, suc, ◌+◌, ◌-◌, ◌^◌, ◌<◌}
 use native.Mathlib.Omega.{arith}
-use lib.Bits.{or_zero_r}
 use lib.Dec.{eqb, ltb}
 use lib.ListN.{get_or}
 use lib.Pow.{pow_pos}
-use borrow.Author.Tests.{eqb-true, eq-eqb, ne_eqb}
+use borrow.Author.Tests.{eqb-true}
 use Rattle.logic.specs.Quantifiers.{some_below}
 use Rattle.logic.proofs.Bools.{test, iff, and_l, and_r, and_i, or_elim, or_l, or_r, not-true, is_false, clash}
 use Rattle.logic.proofs.Quantifiers.{below_in, below_out}
-use Rattle.sets.specs.Sets.{has, union, meet, without, single, set_of, first, count}
-use Rattle.sets.proofs.Membership.{has-union, none_empty, member_below, ext, first_member}
-use Rattle.sets.proofs.Members.{first_in_lem}
-use Rattle.sets.proofs.Builder.{union_lt, without_lt, has-set_of, has-set_of_in}
+use Rattle.sets.specs.Sets.{has, union, meet, without, single, set_of, first, count, members}
+use Rattle.sets.proofs.Membership.{has-union, has_empty, member_below, ext, first_member}
+use Rattle.sets.proofs.Members.{first_in_lem, In, in_members, members_in}
+use Rattle.sets.proofs.Builder.{union_lt, has-set_of, has-set_of_in, set_of_ext, set_of_lt}
 use Rattle.graph.specs.Graph.{has_goal, ahead}
 use Rattle.graph.proofs.Goals.{goal-union, goal-meet, goal-without, goal-none, goal-single, single-goal, Part, part_lt, part_less}
 use Rattle.expression.specs.Split.{tie, Component}
@@ -64,6 +63,24 @@ module _ (after prior : List ℕ) (k : Bool) (left : ℕ) where
         all = λ i g u e. let s : i ≡ x = omega (arith, single-goal x (suc i) u) in ap (λ (z : ℕ). has_goal (hanging after prior k left z) g) (sym s) ∙ e;
       }
 
+  -- those that hang together with a goal of a list
+  abbrev pub any_of : List ℕ → ℕ
+  any_of [] = 0
+  any_of (i ∷ l) = union (hanging after prior k left i) (any_of l)
+
+  any_in : (l : List ℕ) (i j : ℕ) → In i l → has (hanging after prior k left i) j ≡ true → has (any_of l) j ≡ true
+  any_in [] i j p h = absurd p
+  any_in (x ∷ l) i j p h =
+      has-union (hanging after prior k left x) (any_of l) j
+      ∙ ⊎_elim (λ e. or_l (has (hanging after prior k left x) j) (has (any_of l) j) (ap (λ (z : ℕ). has (hanging after prior k left z) j) (sym e) ∙ h))
+      (λ q. or_r (has (hanging after prior k left x) j) (has (any_of l) j) (any_in l i j q h)) p
+
+  any_out : (l : List ℕ) (j : ℕ) → has (any_of l) j ≡ true → (i : ℕ) × In i l × (has (hanging after prior k left i) j ≡ true)
+  any_out [] j h = absurd (false≢true (sym (has_empty j) ∙ h))
+  any_out (x ∷ l) j h =
+      or_elim (has (hanging after prior k left x) j) (has (any_of l) j) (sym (has-union (hanging after prior k left x) (any_of l) j) ∙ h)
+      (λ e. (x, inl refl, e)) (λ e. let o = any_out l j e in (o.0, inr o.1, o.2))
+
   module _ (w : ℕ) (ll : left < 2 ^ w) where
     near_any : (todo : ℕ) → todo < 2 ^ w → Near after prior k left todo (hanging_any w after prior k left todo)
     unfolding hanging_any
@@ -86,70 +103,68 @@ module _ (after prior : List ℕ) (k : Bool) (left : ℕ) where
             ∙ below_in w (λ i. has todo i && has (hanging after prior k left i) j) i (member_below w todo i lt u)
             (and_i (has todo i) (has (hanging after prior k left i) j) u e)
 
-    -- ---- the loop over the goals of a set that finds them: `all` is found, `todo` still to be visited
+    any_lt : (l : List ℕ) → any_of l < 2 ^ w
+    any_lt [] = pow_pos w
+    any_lt (i ∷ l) = union_lt w (hanging after prior k left i) (any_of l) (part_lt w (hanging after prior k left i) left (hanging_part i) ll) (any_lt l)
 
-    abbrev any : ℕ → ℕ
-    any todo = hanging_any w after prior k left todo
-
-    -- where none is to be visited, all is found
-    pub any-end : {all todo r : ℕ} → union all (hanging_any w after prior k left todo) ≡ r → todo ≡ 0 → all ≡ r
-    any-end {all} e z = sym (or_zero_r all) ∙ ap (union all) (sym (ap any z ∙ none)) ∙ e
+    -- at first all members are to come
+    pub any_all : (set : ℕ) → any_of (members w set) ≡ hanging_any w after prior k left set
+    unfolding hanging_any
+    any_all set =
+        set_of_ext w (any_of (members w set)) (λ j. some_below w (f j)) (any_lt (members w set))
+        (λ j l.
+        iff (has (any_of (members w set)) j) (some_below w (f j))
+        (λ e.
+        let o = any_out (members w set) j e in
+        let m = in_members w 0 set o.0 o.1 in
+        below_in w (f j) o.0 (omega (arith, m.1)) (and_i (has set o.0) (has (hanging after prior k left o.0) j) m.2 o.2))
+        (λ e.
+        let b = below_out w (f j) e in
+        any_in (members w set) b.x j
+        (members_in w 0 set b.x (omega arith) (omega (arith, b.under)) (and_l (has set b.x) (has (hanging after prior k left b.x) j) b.so))
+        (and_r (has set b.x) (has (hanging after prior k left b.x) j) b.so)))
       where
-        none : any 0 ≡ 0
-        none =
-            none_empty (any 0)
-            (λ j.
-            is_false (has (any 0) j)
-            (λ e. let o = (near_any 0 (pow_pos w)).from (suc j) e in clash o.1 (goal-none (suc o.0))))
+        f : ℕ → ℕ → Bool
+        f j i = has set i && has (hanging after prior k left i) j
 
-    -- the lowest is visited
-    module _ (all todo : ℕ) (la : all < 2 ^ w) (lt : todo < 2 ^ w) (some : todo ≡ 0 → ⊥) where
-      abbrev i : ℕ
-      i = first w todo
+-- The loop over the goals of a set: `all` has what hangs together with those it was at, the goals of `l` are still to come.
+pub record Finding (w : ℕ) (after prior : List ℕ) (k : Bool) (left set all : ℕ) (l : List ℕ) : Type 0 where
+  pub small : all < 2 ^ w
+  pub same : (j : ℕ) → has all j || has (any_of after prior k left l) j ≡ has (hanging_any w after prior k left set) j
 
-      abbrev near_i : ℕ
-      near_i = hanging after prior k left i
+module _ {w : ℕ} {after prior : List ℕ} {k : Bool} {left set : ℕ} where
+  pub find_all : left < 2 ^ w → (rest : ℕ) → rest ≡ set → Finding w after prior k left set 0 (members w rest)
+  find_all ll rest e =
+      record {
+        small = pow_pos w;
+        same = λ j.
+            ap (λ (t : Bool). t || has (any_of after prior k left (members w rest)) j) (has_empty j)
+            ∙ ap (λ (m : ℕ). has m j) (any_all after prior k left w ll rest ∙ ap (hanging_any w after prior k left) e);
+      }
 
-      abbrev others : ℕ
-      others = without todo (single i)
+  pub find_more : {all : ℕ} {l : List ℕ} → Finding w after prior k left set all l → {i : ℕ} {l' : List ℕ} → l ≡ i ∷ l' → {all' fresh : ℕ} → fresh ≡ hanging after prior k left i
+      → all' ≡ union all fresh → all' < 2 ^ w → Finding w after prior k left set all' l'
+  find_more {all} st {i} {l'} e {all'} {fresh} ef ea small =
+      record {
+        small = small;
+        same = λ j.
+            ap (λ (m : ℕ). has m j || has (any_of after prior k left l') j) (ea ∙ ap (union all) ef)
+            ∙ ap (λ (t : Bool). t || has (any_of after prior k left l') j) (has-union all (hanging after prior k left i) j)
+            ∙ or_assoc (has all j) (has (hanging after prior k left i) j) (has (any_of after prior k left l') j)
+            ∙ ap (λ (t : Bool). has all j || t) (sym (has-union (hanging after prior k left i) (any_of after prior k left l') j))
+            ∙ ap (λ (m : List ℕ). has all j || has (any_of after prior k left m) j) (sym e)
+            ∙ st.same j;
+      }
 
-      there : Has todo (suc i)
-      there = first_member w todo (first_in_lem w todo lt some)
-
-      near_others : Near after prior k left others (any others)
-      near_others = near_any others (without_lt w todo (single i) lt)
-
-      parts : (j : ℕ) → has near_i j || has (any others) j ≡ has (any todo) j
-      parts j =
-          iff (has near_i j || has (any others) j) (has (any todo) j)
-          (λ e.
-          or_elim (has near_i j) (has (any others) j) e (n.all i (suc j) there)
-          (λ t. let o = near_others.from (suc j) t in n.all o.0 (suc j) (without_l todo (single i) (suc o.0) o.1) o.2))
-          (λ e.
-          let o = n.from (suc j) e in
-          ⊎_elim
-          (λ s. or_l (has near_i j) (has (any others) j) ((near_single i).all o.0 (suc j) s o.2))
-          (λ s. or_r (has near_i j) (has (any others) j) (near_others.all o.0 (suc j) (without-i todo (single i) (suc o.0) o.1 s) o.2))
-          (test (has_goal (single i) (suc o.0))))
-        where
-          n : Near after prior k left todo (any todo)
-          n = near_any todo lt
-
-      pub any_more : union (union all (hanging after prior k left (first w todo))) (hanging_any w after prior k left (without todo (single (first w todo))))
-          ≡ union all (hanging_any w after prior k left todo)
-      any_more =
-          ext w (union (union all near_i) (any others)) (union all (any todo))
-          (union_lt w (union all near_i) (any others) (union_lt w all near_i la (inside near_i (near_single i))) (inside (any others) near_others))
-          (union_lt w all (any todo) la (inside (any todo) (near_any todo lt)))
-          (λ j l.
-          has-union (union all near_i) (any others) j
-          ∙ ap (λ (t : Bool). t || has (any others) j) (has-union all near_i j)
-          ∙ or_assoc (has all j) (has near_i j) (has (any others) j)
-          ∙ ap (λ (t : Bool). has all j || t) (parts j)
-          ∙ sym (has-union all (any todo) j))
-        where
-          inside : (m : ℕ) {s : ℕ} → Near after prior k left s m → m < 2 ^ w
-          inside m n = part_lt w m left (near_part n) ll
+  pub find_end : {all : ℕ} {l : List ℕ} → Finding w after prior k left set all l → l ≡ [] → all ≡ hanging_any w after prior k left set
+  unfolding hanging_any
+  find_end {all} st e =
+      ext w all (hanging_any w after prior k left set) st.small (set_of_lt w _)
+      (λ j l. none j (has all j) ∙ ap (λ (m : List ℕ). has all j || has (any_of after prior k left m) j) (sym e) ∙ st.same j)
+    where
+      none : (j : ℕ) (t : Bool) → t ≡ t || has 0 j
+      none j true = refl
+      none j false = sym (has_empty j)
 
 -- ---- the part grows
 
@@ -352,23 +367,3 @@ module _ (after prior : List ℕ) (k : Bool) (set : ℕ) (turned : Turned after 
     pub grow_done : {left todo r : ℕ} → Has set (suc x) → Growing after k set x left todo → todo ≡ 0 → r ≡ without set left
         → Component (ahead after) k (Has set) (suc x) (Has r)
     grow_done h st z e = subst (λ (r : ℕ). Component (ahead after) k (Has set) (suc x) (Has r)) (sym e) (grow_end h st z)
-
--- the two kinds
-pub hanging_sequence : (after prior : List ℕ) (k : Bool) (left i : ℕ) → k ≡ true → without left (union (get_or after i 0) (get_or prior i 0)) ≡ hanging after prior k left i
-unfolding hanging
-hanging_sequence after prior k left i e =
-    sym (ap (λ (t : Bool). cond t (without left (union (get_or after i 0) (get_or prior i 0))) (meet left (union (get_or after i 0) (get_or prior i 0)))) e)
-
-pub hanging-group : (after prior : List ℕ) (k : Bool) (left i : ℕ) → k ≡ false → meet left (union (get_or after i 0) (get_or prior i 0)) ≡ hanging after prior k left i
-unfolding hanging
-hanging-group after prior k left i e =
-    sym (ap (λ (t : Bool). cond t (without left (union (get_or after i 0) (get_or prior i 0))) (meet left (union (get_or after i 0) (get_or prior i 0)))) e)
-
--- whether the whole set is in the part
-pub pending-none : (todo left : ℕ) → left ≡ 0 → 0 ≡ pending todo left
-unfolding pending
-pending-none todo left e = sym (ap (λ (t : Bool). cond t 0 todo) (eq-eqb left 0 e))
-
-pub pending_some : (todo left : ℕ) → (left ≡ 0 → ⊥) → todo ≡ pending todo left
-unfolding pending
-pending_some todo left n = sym (ap (λ (t : Bool). cond t 0 todo) (ne_eqb left 0 n))

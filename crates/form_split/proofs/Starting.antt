@@ -99,12 +99,3 @@ module _ (prior : List ℕ) (k : Bool) (rest : ℕ) where
           subst (λ (i : ℕ). Tried i next) (sym e) (try_next l o st n next z),
           subst (λ (i : ℕ). count i < count before) (sym z) (try_less l o st n),
         )
-
--- the two kinds
-pub earlier_sequence : (prior : List ℕ) (k : Bool) (rest x : ℕ) → k ≡ true → meet (get_or prior x 0) rest ≡ earlier prior k rest x
-unfolding earlier
-earlier_sequence prior k rest x e = sym (ap (λ (t : Bool). cond t (meet (get_or prior x 0) rest) 0) e)
-
-pub earlier-group : (prior : List ℕ) (k : Bool) (rest x : ℕ) → k ≡ false → 0 ≡ earlier prior k rest x
-unfolding earlier
-earlier-group prior k rest x e = sym (ap (λ (t : Bool). cond t (meet (get_or prior x 0) rest) 0) e)

@@ -1,12 +1,13 @@
 -- What the functions that find a member look at. Row i stands for goal i + 1.
 use Rattle.std.specs.Prelude.{Bool, cond, ◌&&◌, List, ℕ, eqb, get_or}
+use Rattle.graph_transpose.specs.Related.{related}
 use Rattle.logic.specs.Quantifiers.{some_below}
-use Rattle.sets.specs.Sets.{has, union, meet, without, set_of}
+use Rattle.sets.specs.Sets.{has, meet, without, set_of}
 
 -- those of `left` that hang together with goal i + 1: for a group (k is false) what is in order with it, for a sequence what is not
 unfoldable pub hanging : List ℕ → List ℕ → Bool → ℕ → ℕ → ℕ
 hanging after prior k left i =
-    cond k (without left (union (get_or after i 0) (get_or prior i 0))) (meet left (union (get_or after i 0) (get_or prior i 0)))
+    cond k (without left (related after prior i)) (meet left (related after prior i))
 
 -- those of `left` that hang together with a goal of a set, of the goals 1 to w
 unfoldable pub hanging_any : ℕ → List ℕ → List ℕ → Bool → ℕ → ℕ → ℕ

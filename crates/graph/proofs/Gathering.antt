@@ -2,7 +2,7 @@
 use mathlib.Core.Path.{◌≡◌, refl, sym, ap, ◌∙◌, subst}
 use mathlib.Core.Bool.{Bool, true, false, not, ◌&&◌, ◌||◌, cond, false≢true, or-false}
 use mathlib.Core.Logic.{⊎_elim}
-use mathlib.Core.List.{List}
+use mathlib.Core.List.{List, [], ◌∷◌}
 use Prim.Native.Nat.{ℕ, suc, ◌-◌, ◌^◌, ◌≤◌, ◌<◌}
 use native.Mathlib.Decide.{ℕ_discrete}
 use native.Mathlib.Omega.{arith}
@@ -15,8 +15,8 @@ use Rattle.logic.specs.Quantifiers.{some_below}
 use Rattle.logic.proofs.Bools.{test, by_test, iff, is_false, and_l, and_r, and_i, or_elim, or_l, or_r}
 use Rattle.logic.proofs.Quantifiers.{below_in, below_out}
 use Rattle.sets.specs.Sets.{has, union, without, single, below, first, members}
-use Rattle.sets.proofs.Membership.{has_empty, has-union, has-without, has-single, has-below, first_member, member_below}
-use Rattle.sets.proofs.Members.{first_in_lem, other, fewer, no_more}
+use Rattle.sets.proofs.Membership.{has_empty, has-union, has-without, has-single, has-below, member_below}
+use Rattle.sets.proofs.Members.{fewer, no_more, members_step, members-none, step_in, step_has, step_none}
 use Rattle.sets.proofs.Builder.{single_lt, members_lt, union_lt, has-set_of, has-set_of_in, set_of_ext, set_of_cong}
 use Rattle.logic.specs.Table.{table}
 use Rattle.logic.proofs.Table.{table_ext, table_at}
@@ -30,18 +30,60 @@ module _ (w : ℕ) (rows : List ℕ) where
   abbrev via : ℕ → ℕ → Bool
   via left j = some_below w (λ k. has left k && has (get_or rows k 0) j)
 
-  via-none : (j : ℕ) → via 0 j ≡ false
-  via-none j =
-      is_false (via 0 j)
-      (λ e.
-      let r = below_out w (λ k. has 0 k && has (get_or rows k 0) j) e in
-      false≢true (sym (has_empty r.x) ∙ and_l (has 0 r.x) (has (get_or rows r.x 0) j) r.so))
-
-  pub gather-end : (all left : ℕ) → all < 2 ^ w → left ≡ 0 → all ≡ gather w rows all left
+  -- a turn of the loop over the members; and its end
+  pub gather_turn : (all left k others : ℕ) → members w left ≡ k ∷ members w others
+      → gather w rows (union all (get_or rows k 0)) others ≡ gather w rows all left
   unfolding gather
-  gather-end all left h z =
+  gather_turn all left k others e =
+      set_of_cong w _ _
+      (λ j l. ap (λ (t : Bool). t || via others j) (has-union all (get_or rows k 0) j) ∙ iff _ _ (there j) (back j))
+    where
+      in_via : (m i j : ℕ) → i < w → has m i ≡ true → has (get_or rows i 0) j ≡ true → via m j ≡ true
+      in_via m i j l p q = below_in w (λ i. has m i && has (get_or rows i 0) j) i l (and_i (has m i) (has (get_or rows i 0) j) p q)
+
+      has_left : (i : ℕ) → i < w → (eqb k i || has others i) ≡ true → has left i ≡ true
+      has_left i l p = step_has w left k others e i l ∙ p
+
+      there : (j : ℕ) → (has all j || has (get_or rows k 0) j) || via others j ≡ true → has all j || via left j ≡ true
+      there j h =
+          or_elim (has all j || has (get_or rows k 0) j) (via others j) h
+          (λ t.
+          or_elim (has all j) (has (get_or rows k 0) j) t (or_l (has all j) (via left j))
+          (λ u. or_r (has all j) (via left j) (in_via left k j (step_in w left k others e) (has_left k (step_in w left k others e) (or_l (eqb k k) (has others k) (eq-eqb k k refl))) u)))
+          (λ t.
+          let r = below_out w (λ i. has others i && has (get_or rows i 0) j) t in
+          or_r (has all j) (via left j)
+          (in_via left r.x j r.under (has_left r.x r.under (or_r (eqb k r.x) (has others r.x) (and_l (has others r.x) (has (get_or rows r.x 0) j) r.so)))
+          (and_r (has others r.x) (has (get_or rows r.x 0) j) r.so)))
+
+      back : (j : ℕ) → has all j || via left j ≡ true → (has all j || has (get_or rows k 0) j) || via others j ≡ true
+      back j h =
+          or_elim (has all j) (via left j) h
+          (λ t. or_l (has all j || has (get_or rows k 0) j) (via others j) (or_l (has all j) (has (get_or rows k 0) j) t))
+          (λ t.
+          let r = below_out w (λ i. has left i && has (get_or rows i 0) j) t in
+          let in_row = and_r (has left r.x) (has (get_or rows r.x 0) j) r.so in
+          or_elim (eqb k r.x) (has others r.x) (sym (step_has w left k others e r.x r.under) ∙ and_l (has left r.x) (has (get_or rows r.x 0) j) r.so)
+          (λ i.
+          or_l (has all j || has (get_or rows k 0) j) (via others j)
+          (or_r (has all j) (has (get_or rows k 0) j) (ap (λ (z : ℕ). has (get_or rows z 0) j) (eqb-true k r.x i) ∙ in_row)))
+          (λ i. or_r (has all j || has (get_or rows k 0) j) (via others j) (in_via others r.x j r.under i in_row)))
+
+  pub gather_over : (all left : ℕ) → members w left ≡ [] → all < 2 ^ w → all ≡ gather w rows all left
+  unfolding gather
+  gather_over all left e h =
       set_of_ext w all (λ j. has all j || via left j) h
-      (λ j l. sym (or-false (has all j)) ∙ ap (λ (t : Bool). has all j || t) (sym (ap (λ (m : ℕ). via m j) z ∙ via-none j)))
+      (λ j l. sym (or-false (has all j)) ∙ ap (λ (t : Bool). has all j || t) (sym (none j)))
+    where
+      none : (j : ℕ) → via left j ≡ false
+      none j =
+          is_false (via left j)
+          (λ q.
+          let r = below_out w (λ k. has left k && has (get_or rows k 0) j) q in
+          false≢true (sym (step_none w left e r.x r.under) ∙ and_l (has left r.x) (has (get_or rows r.x 0) j) r.so))
+
+  pub gather_end : (all left : ℕ) → all < 2 ^ w → left ≡ 0 → all ≡ gather w rows all left
+  gather_end all left h z = gather_over all left (ap (members w) z ∙ members-none w) h
 
   module _ (left : ℕ) (h : left < 2 ^ w) (n : left ≡ 0 → ⊥) where
     abbrev x : ℕ
@@ -50,44 +92,8 @@ module _ (w : ℕ) (rows : List ℕ) where
     abbrev rest : ℕ
     rest = without left (single x)
 
-    x_in : x < w
-    x_in = first_in_lem w left h n
-
     pub gather_more : (all : ℕ) → gather w rows (union all (get_or rows x 0)) rest ≡ gather w rows all left
-    unfolding gather
-    gather_more all =
-        set_of_cong w _ _
-        (λ j l. ap (λ (t : Bool). t || via rest j) (has-union all (get_or rows x 0) j) ∙ iff _ _ (there j) (back j))
-      where
-        via_in : (left k j : ℕ) → k < w → has left k ≡ true → has (get_or rows k 0) j ≡ true → via left j ≡ true
-        via_in left k j l p q = below_in w (λ k. has left k && has (get_or rows k 0) j) k l (and_i (has left k) (has (get_or rows k 0) j) p q)
-
-        there : (j : ℕ) → (has all j || has (get_or rows x 0) j) || via rest j ≡ true → has all j || via left j ≡ true
-        there j e =
-            or_elim (has all j || has (get_or rows x 0) j) (via rest j) e
-            (λ t.
-            or_elim (has all j) (has (get_or rows x 0) j) t (λ u. or_l (has all j) (via left j) u)
-            (λ u. or_r (has all j) (via left j) (via_in left x j x_in (first_member w left x_in) u)))
-            (λ t.
-            let r = below_out w (λ k. has rest k && has (get_or rows k 0) j) t in
-            let p = and_l (has rest r.x) (has (get_or rows r.x 0) j) r.so in
-            or_r (has all j) (via left j)
-            (via_in left r.x j r.under (and_l (has left r.x) (not (has (single x) r.x)) (sym (has-without left (single x) r.x) ∙ p))
-            (and_r (has rest r.x) (has (get_or rows r.x 0) j) r.so)))
-
-        back : (j : ℕ) → has all j || via left j ≡ true → (has all j || has (get_or rows x 0) j) || via rest j ≡ true
-        back j e =
-            or_elim (has all j) (via left j) e
-            (λ t. or_l (has all j || has (get_or rows x 0) j) (via rest j) (or_l (has all j) (has (get_or rows x 0) j) t))
-            (λ t.
-            let r = below_out w (λ k. has left k && has (get_or rows k 0) j) t in
-            go r.x r.under (and_l (has left r.x) (has (get_or rows r.x 0) j) r.so) (and_r (has left r.x) (has (get_or rows r.x 0) j) r.so) (ℕ_discrete x r.x))
-          where
-            go : (k : ℕ) → k < w → has left k ≡ true → has (get_or rows k 0) j ≡ true → Dec (x ≡ k) → (has all j || has (get_or rows x 0) j) || via rest j ≡ true
-            go k l p q (yes i) =
-                or_l (has all j || has (get_or rows x 0) j) (via rest j)
-                (or_r (has all j) (has (get_or rows x 0) j) (ap (λ (z : ℕ). has (get_or rows z 0) j) i ∙ q))
-            go k l p q (no i) = or_r (has all j || has (get_or rows x 0) j) (via rest j) (via_in rest k j l (other left x k i ∙ p) q)
+    gather_more all = gather_turn all left x rest (members_step w left h n)
 
     -- the goals of a row that stays as it is may be passed over
     pub gather_skip : (all still : ℕ) → Still rows still → has still x ≡ true

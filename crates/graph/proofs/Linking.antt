@@ -1,29 +1,29 @@
 -- The loop that puts a set of goals into the rows of another set, first member first.
 use mathlib.Core.Path.{◌≡◌, refl, sym, ap, ap₂, ◌∙◌, subst}
-use mathlib.Core.Bool.{Bool, true, false, not, ◌&&◌, ◌||◌, cond, and-true, and-false, and-not_self, or-false}
-use mathlib.Core.List.{List}
+use mathlib.Core.Bool.{Bool, true, false, not, ◌&&◌, ◌||◌, cond, and-false, and-not_self, or-false}
+use mathlib.Core.List.{List, [], ◌∷◌}
 use mathlib.Core.Logic.{dite}
 use Prim.Native.Nat.{ℕ, suc, ◌^◌, ◌<◌}
 use native.Mathlib.Omega.{arith}
 use native.Mathlib.Decide.{dec_lt}
-use lib.ListN.{length, get_or, set, replicate, length-set, length-replicate, get_or-replicate, get_or-eq_default}
+use lib.ListN.{get_or, set, replicate, length-set, length-replicate, get_or-replicate, get_or-eq_default}
 use lib.Pow.{pow_pos}
 use lib.Seq.{get_or-set_same, get_or-set_other}
 use borrow.Author.Tests.{eq-eqb, ne_eqb}
-use Rattle.logic.proofs.Bools.{and_l}
-use Rattle.sets.specs.Sets.{has, union, without, single, first, members}
-use Rattle.sets.proofs.Membership.{has-union, has_empty, has-single, has-without, first_member}
-use Rattle.sets.proofs.Builder.{union_lt, without_lt}
-use Rattle.sets.proofs.Members.{first_in_lem, fewer}
+use lib.Dec.{eqb}
+use Rattle.logic.proofs.Bools.{or_l, or_r}
+use Rattle.sets.specs.Sets.{has, union, members}
+use Rattle.sets.proofs.Membership.{has-union, has_empty}
+use Rattle.sets.proofs.Builder.{union_lt}
+use Rattle.sets.proofs.Members.{step_in, step_has, step_gone, step_none}
 use Rattle.graph.specs.Graph.{ahead, Words}
 use Rattle.graph.specs.Linking.{Linked}
 
 -- the rows of front that are not left have later too
 pub record Linking (w front later : ℕ) (old now : List ℕ) (left : ℕ) : Type 0 where
-  pub inside : (m : ℕ) → has left m ≡ true → has front m ≡ true
+  pub inside : (m : ℕ) → m < w → has left m ≡ true → has front m ≡ true
   pub at : (m : ℕ) → m < w → get_or now m 0 ≡ cond (has front m && not (has left m)) (union (get_or old m 0) later) (get_or old m 0)
   pub words : Words w now
-  pub rest : left < 2 ^ w
 
 split : {A : Type 0} (i m : ℕ) → (i ≡ m → A) → ((i ≡ m → ⊥) → A) → A
 split i m f g = dite (dec_lt i m) (λ a. g (λ e. omega arith)) (λ a. dite (dec_lt m i) (λ b. g (λ e. omega arith)) (λ b. f (omega arith)))
@@ -41,68 +41,53 @@ module _ (w front later : ℕ) (old : List ℕ) where
           sym (ap (λ b. ahead old (suc i) (suc j) || b) (ap (λ m. has front i && has m j) z ∙ ap (λ b. has front i && b) (has_empty j) ∙ and-false (has front i))
           ∙ or-false (ahead old (suc i) (suc j)))
 
-  pub linking_start : Words w old → front < 2 ^ w → Linking w front later old old front
-  linking_start ws l = record { inside = λ m h. h; at = λ m l. sym (ap (λ b. mixed b m) (and-not_self (has front m))); words = ws; rest = l }
+  pub linking_start : Words w old → Linking w front later old old front
+  linking_start ws = record { inside = λ m l h. h; at = λ m l. sym (ap (λ b. mixed b m) (and-not_self (has front m))); words = ws }
 
-  linking_more : (now : List ℕ) (left : ℕ) → later < 2 ^ w → (left ≡ 0 → ⊥) → Linking w front later old now left
-      → Linking w front later old (set now (first w left) (union (get_or now (first w left) 0) later)) (without left (single (first w left)))
-  linking_more now left few n h =
+  pub linking_turn : (now : List ℕ) (left i others : ℕ) → members w left ≡ i ∷ members w others → later < 2 ^ w → Linking w front later old now left
+      → Linking w front later old (set now i (union (get_or now i 0) later)) others
+  linking_turn now left i others e few h =
       record {
-        inside = λ m e. h.inside m (and_l (has left m) (not (has (single i) m)) (sym (has-without left (single i) m) ∙ e));
+        inside = λ m l q. h.inside m l (step_has w left i others e m l ∙ or_r (eqb i m) (has others m) q);
         at = λ m l. split i m (here m) (other m l);
         words = record { size = length-set now i v ∙ h.words.size; small = small };
-        rest = without_lt w left (single i) h.rest;
       }
     where
-      i : ℕ
-      i = first w left
-
       v : ℕ
-      v = union (get_or now (first w left) 0) later
+      v = union (get_or now i 0) later
+
+      b : i < w
+      b = step_in w left i others e
 
       in_left : has left i ≡ true
-      in_left = first_member w left (first_in_lem w left h.rest n)
+      in_left = step_has w left i others e i b ∙ or_l (eqb i i) (has others i) (eq-eqb i i refl)
 
       small : (m : ℕ) → get_or (set now i v) m 0 < 2 ^ w
       small m =
           split {A = get_or (set now i v) m 0 < 2 ^ w} i m
-          (λ e.
-          let l = first_in_lem w left h.rest n in
-          subst (λ z. get_or (set now i v) z 0 < 2 ^ w) e
-          (subst (λ z. z < 2 ^ w) (sym (get_or-set_same now i v 0 (omega (arith, h.words.size)))) (union_lt w (get_or now i 0) later (h.words.small i) few)))
-          (λ e. subst (λ z. z < 2 ^ w) (sym (get_or-set_other now i m v 0 (λ q. e (sym q)))) (h.words.small m))
+          (λ q.
+          subst (λ z. get_or (set now i v) z 0 < 2 ^ w) q
+          (subst (λ z. z < 2 ^ w) (sym (get_or-set_same now i v 0 (let l = b in omega (arith, h.words.size)))) (union_lt w (get_or now i 0) later (h.words.small i) few)))
+          (λ q. subst (λ z. z < 2 ^ w) (sym (get_or-set_other now i m v 0 (λ r. q (sym r)))) (h.words.small m))
 
-      here : (m : ℕ) → i ≡ m → get_or (set now i v) m 0 ≡ mixed (has front m && not (has (without left (single i)) m)) m
-      here m e =
-          let l = first_in_lem w left h.rest n in
-          let out : has (without left (single i)) i ≡ false = has-without left (single i) i ∙ ap₂ (λ a b. a && not b) in_left (has-single i i ∙ eq-eqb i i refl) in
-          ap (λ z. get_or (set now i v) z 0) (sym e)
-          ∙ get_or-set_same now i v 0 (omega (arith, h.words.size))
-          ∙ ap (λ z. union z later) (h.at i l ∙ ap (λ b. mixed b i) (ap₂ (λ a b. a && not b) (h.inside i in_left) in_left))
-          ∙ sym (ap (λ b. mixed b i) (ap₂ (λ a b. a && not b) (h.inside i in_left) out))
-          ∙ ap (λ z. mixed (has front z && not (has (without left (single i)) z)) z) e
+      here : (m : ℕ) → i ≡ m → get_or (set now i v) m 0 ≡ mixed (has front m && not (has others m)) m
+      here m q =
+          ap (λ z. get_or (set now i v) z 0) (sym q)
+          ∙ get_or-set_same now i v 0 (let l = b in omega (arith, h.words.size))
+          ∙ ap (λ z. union z later) (h.at i b ∙ ap (λ t. mixed t i) (ap₂ (λ x y. x && not y) (h.inside i b in_left) in_left))
+          ∙ sym (ap (λ t. mixed t i) (ap₂ (λ x y. x && not y) (h.inside i b in_left) (step_gone w left i others e)))
+          ∙ ap (λ z. mixed (has front z && not (has others z)) z) q
 
-      other : (m : ℕ) → m < w → (i ≡ m → ⊥) → get_or (set now i v) m 0 ≡ mixed (has front m && not (has (without left (single i)) m)) m
-      other m l e =
-          let kept : has (without left (single i)) m ≡ has left m = has-without left (single i) m ∙ ap (λ b. has left m && not b) (has-single i m ∙ ne_eqb i m e) ∙ and-true (has left m) in
-          get_or-set_other now i m v 0 (λ q. e (sym q)) ∙ h.at m l ∙ ap (λ b. mixed (has front m && not b) m) (sym kept)
+      other : (m : ℕ) → m < w → (i ≡ m → ⊥) → get_or (set now i v) m 0 ≡ mixed (has front m && not (has others m)) m
+      other m l q =
+          get_or-set_other now i m v 0 (λ r. q (sym r)) ∙ h.at m l
+          ∙ ap (λ t. mixed (has front m && not t) m) (step_has w left i others e m l ∙ ap (λ t. t || has others m) (ne_eqb i m q))
 
-  -- the same, as the loop's turn has it
-  pub linking_turn : (now : List ℕ) (left i rest : ℕ) → i ≡ first w left → rest ≡ without left (single (first w left)) → later < 2 ^ w → (left ≡ 0 → ⊥)
-      → Linking w front later old now left → Linking w front later old (set now i (union (get_or now i 0) later)) rest
-  linking_turn now left i rest ei er few n h =
-      subst (λ z. Linking w front later old (set now i (union (get_or now i 0) later)) z) (sym er)
-      (subst (λ z. Linking w front later old (set now z (union (get_or now z 0) later)) (without left (single (first w left)))) (sym ei) (linking_more now left few n h))
-
-  pub linking_less : (left rest : ℕ) → rest ≡ without left (single (first w left)) → (now : List ℕ) → (left ≡ 0 → ⊥)
-      → Linking w front later old now left → length (members w rest) < length (members w left)
-  linking_less left rest er now n h = subst (λ z. length (members w z) < length (members w left)) (sym er) (fewer w left h.rest n)
-
-  pub linking_end : (now : List ℕ) (left : ℕ) → left ≡ 0 → Linking w front later old now left → Linked w front later old now
-  linking_end now left z h = record { words = h.words; order = λ i j l. order i j l }
+  pub linking_end : (now : List ℕ) (left : ℕ) → members w left ≡ [] → Linking w front later old now left → Linked w front later old now
+  linking_end now left e h = record { words = h.words; order = λ i j l. order i j l }
     where
       order : (i j : ℕ) → i < w → ahead now (suc i) (suc j) ≡ (ahead old (suc i) (suc j) || (has front i && has later j))
-      order i j l = ap (λ m. has m j) (h.at i l ∙ ap (λ b. mixed (has front i && not b) i) (ap (λ m. has m i) z ∙ has_empty i)) ∙ go (has front i)
+      order i j l = ap (λ m. has m j) (h.at i l ∙ ap (λ t. mixed (has front i && not t) i) (step_none w left e i l)) ∙ go (has front i)
         where
           go : (b : Bool) → has (mixed (b && true) i) j ≡ (has (get_or old i 0) j || (b && has later j))
           go true = has-union (get_or old i 0) later j

@@ -9,7 +9,9 @@ ghost use Rattle.graph.specs.Passes as P;
 ghost use Rattle.graph.specs.PassRows as Q;
 ghost use Rattle.graph.specs.Linking.{Linked};
 
-// Row g - 1 is the set of the goals that goal g is before, goal h at bit h - 1; rows past the count are zero.
+use sets::Set;
+
+// Row g - 1 is the set of the goals that goal g is before, goal h at bit h - 1; rows past the count are zero. An array and a count: a library takes no memory.
 #[derive(Drop)]
 pub struct Graph {
     pub n: usize,
@@ -43,7 +45,7 @@ impl Graph {
         requires { (1 ≤ g) × (g ≤ S.goal_limit) }
         ensures { result ≡ S.single (g - 1) }
     {
-        sets::single32(g - 1)
+        u32::single(g - 1)
     }
 
     // The goals that goal g is before.
@@ -61,7 +63,8 @@ impl Graph {
         ensures { result ≡ P.closed_of self }
     {
         let n = self.n;
-        let all = sets::below32(n);
+        let all = u32::below(n);
+        // No `for`: the loop is left in its last turn at the latest, and the number of the turn is answered.
         let mut passes = 1u32;
         loop {
             let still = pass(&mut self.rows, n);
@@ -76,15 +79,13 @@ impl Graph {
 }
 
 // The row with the rows of its goals.
+#[tactic(auto, using(crate::proofs::Gathering::gather_turn, crate::proofs::Gathering::gather_over, sets::proofs::Members::step_in))]
 fn joined(rows: &[u32; Graph::MAX], row: u32) -> u32
     ensures { result ≡ Q.gather S.goal_limit rows.now row row }
 {
     let mut all = row;
-    let mut left = row;
-    while left != 0 {
-        let k = sets::first32(left);
-        left = sets::without_first32(left);
-        all = sets::union32(all, rows[k]);
+    for k in row.members() {
+        all = all.union(rows[k]);
     }
     all
 }
@@ -95,12 +96,13 @@ fn joined_still(rows: &[u32; Graph::MAX], row: u32, still: u32) -> u32
     ensures { result ≡ Q.gather S.goal_limit rows.now row row }
 {
     let mut all = row;
+    // Not over the members: a turn takes out more than the first.
     let mut left = row;
     while left != 0 {
-        let k = sets::first32(left);
+        let k = left.first();
         let via = rows[k];
-        all = sets::union32(all, via);
-        left = sets::without32(sets::without_first32(left), via);
+        all = all.union(via);
+        left = left.without_first().without(via);
     }
     all
 }
@@ -111,7 +113,7 @@ fn kept(still: u32, i: usize, same: bool) -> u32
     ensures { result ≡ cond same (S.union still (S.single i)) still }
 {
     if same {
-        sets::union32(still, Graph::single(i + 1))
+        still.union(u32::single(i))
     } else {
         still
     }
@@ -120,6 +122,8 @@ fn kept(still: u32, i: usize, same: bool) -> u32
 // One pass: what a chain of two waits gives is added, all of it by the rows at its start. From the last goal down: where the waits go up, the rows behind tell
 // what may be passed over. The new rows stand apart, and take the place of the old ones only if one of them differs. Answers the goals whose rows stay as they
 // were.
+// Not inlined: a call costs less than the passes written out one after another.
+#[inline(never)]
 fn pass(rows: &mut [u32; Graph::MAX], n: usize) -> u32
     requires { (n ≤ S.goal_limit) × G.Within S.goal_limit n rows.old }
     ensures { (rows.new ≡ G.rows_of S.goal_limit n (P.pass n (G.ahead rows.old)))
@@ -127,11 +131,9 @@ fn pass(rows: &mut [u32; Graph::MAX], n: usize) -> u32
 {
     let mut next = [0u32; Graph::MAX];
     let mut still = 0u32;
-    let mut i = n;
-    while i > 0 {
-        i -= 1;
+    for i in (0..n).rev() {
         let row = rows[i];
-        let more = if sets::subset32(row, still) {
+        let more = if row.subset(still) {
             joined_still(rows, row, still)
         } else {
             joined(rows, row)
@@ -139,13 +141,14 @@ fn pass(rows: &mut [u32; Graph::MAX], n: usize) -> u32
         still = kept(still, i, more == row);
         next[i] = more;
     }
-    if still != sets::below32(n) {
+    if still != u32::below(n) {
         *rows = next;
     }
     still
 }
 
 // Each goal of `front` is before each goal of `later`, beside what the rows have. Only the rows of `front` are touched, and none if there is nothing to put.
+#[tactic(auto, using(sets::proofs::Members::step_in))]
 pub fn link(rows: &mut [u32; Graph::MAX], front: u32, later: u32)
     requires { G.Words S.goal_limit rows.old }
     ensures { Linked S.goal_limit front later rows.old rows.new }
@@ -153,10 +156,7 @@ pub fn link(rows: &mut [u32; Graph::MAX], front: u32, later: u32)
     if later == 0 {
         return;
     }
-    let mut left = front;
-    while left != 0 {
-        let i = sets::first32(left);
-        rows[i] = rows[i] | later;
-        left = sets::without_first32(left);
+    for i in front.members() {
+        rows[i] |= later;
     }
 }

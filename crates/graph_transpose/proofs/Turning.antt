@@ -34,9 +34,6 @@ module _ (w : ℕ) (rows : List ℕ) where
   abbrev pub Turned : ℕ → List ℕ → Type 0
   Turned i now = now ≡ table w w (before i)
 
-  pub turned-size : (i : ℕ) (now : List ℕ) → Turned i now → length now ≡ w
-  turned-size i now h = ap length h ∙ table-length w w (before i)
-
   pub turned_none : Turned 0 (replicate w 0)
   unfolding set_of
   turned_none =

@@ -7,19 +7,19 @@ ghost use Rattle.independence.specs.ByRows as J;
 ghost use Rattle.independence.specs.Ties as T;
 ghost use Rattle.independence.specs.Halves.{halves, whole};
 
+use sets::Set;
+
 // The variables listed with each variable of the set. Row x of `listed` has those whose pair with x is listed.
+#[tactic(auto, using(sets::proofs::Common::common_start, sets::proofs::Common::common_turn, sets::proofs::Common::common_none, sets::proofs::Common::common_end, sets::proofs::Members::step_in))]
 fn common(set: u64, listed: &[u64; sets::VARIABLES]) -> u64
     ensures { result ≡ S.common listed.now S.variable_limit set }
 {
-    let mut all = sets::below(sets::VARIABLES as u32);
-    let mut rest = set;
-    while rest != 0 {
-        let x = sets::first(rest);
-        all = sets::meet(all, listed[x as usize]);
+    let mut all = u64::below(sets::VARIABLES);
+    for x in set.members() {
+        all = all.meet(listed[x]);
         if all == 0 {
             return 0;
         }
-        rest = sets::without_first(rest);
     }
     all
 }
@@ -28,8 +28,8 @@ fn common(set: u64, listed: &[u64; sets::VARIABLES]) -> u64
 fn apart(set: u64, grounded: u64, free: u64, listed: &[u64; sets::VARIABLES]) -> u64
     ensures { result ≡ J.apart grounded free listed.now S.variable_limit set }
 {
-    let loose = sets::union(grounded, free);
-    common(sets::without(set, loose), listed)
+    let loose = grounded.union(free);
+    common(set.without(loose), listed)
 }
 
 // The variables each of which makes a later goal wait for the goal of this variable set: made once for all later goals. `grounded` has the variables known ground
@@ -38,8 +38,8 @@ pub fn ties(set: u64, grounded: u64, free: u64, listed: &[u64; sets::VARIABLES])
     ensures { result ≡ T.ties_of grounded free listed.now S.variable_limit set }
 {
     let apart = apart(set, grounded, free, listed);
-    let clear = sets::union(grounded, sets::without(sets::union(free, apart), set));
-    sets::without(sets::below(sets::VARIABLES as u32), clear)
+    let clear = grounded.union(free.union(apart).without(set));
+    u64::below(sets::VARIABLES).without(clear)
 }
 
 // A set of variables in two halves: the variables below 32, and those from 32 on, each less 32. Processors that compare several words at once do so for
@@ -64,7 +64,7 @@ impl Halves {
 pub fn waits(ties: Halves, later: Halves) -> bool
     ensures { result ≡ T.tied (whole 32 ties) (whole 32 later) }
 {
-    let low = sets::meet32(later.low, ties.low);
-    let high = sets::meet32(later.high, ties.high);
-    sets::union32(low, high) != 0
+    let low = later.low.meet(ties.low);
+    let high = later.high.meet(ties.high);
+    low.union(high) != 0
 }

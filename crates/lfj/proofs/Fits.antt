@@ -1,6 +1,7 @@
 -- What an operation answers fits the bits that its word has for it, for every record of bytes, so that the word says it whole (Encoding.antt).
 --     places_fit, values_fit, numbers_say, zero_accepted     specs/Fits.antt
 --     form_says, mel_says                                    so the word of a text that was written is its length
+use Rattle.std.specs.Prelude.{Ok, Err}
 use mathlib.Core.Path.{◌≡◌, refl, sym, ap, ap₂, ◌∙◌, subst}
 use mathlib.Core.Bool.{Bool, true, false, ◌&&◌, true≢false}
 use mathlib.Core.List.{List}
@@ -17,11 +18,9 @@ use Rattle.graph.specs.Passes.{pass_limit}
 use Rattle.graph.proofs.Rows.{goals_lt}
 use mathlib.Core.Logic.{⊎_elim}
 use Rattle.record_fields.specs.Fields.{goal_count, var_count, goal_place, text_place}
-use Rattle.record_fields.proofs.Facts.{length-between}
+use Rattle.record_fields.proofs.Facts.{length_between}
 use Rattle.record_rules.specs.declared.Refusal.{Refusal}
-use Rattle.record_rules.specs.declared.Reading.{Reading}
-use Rattle.record_rules.specs.declared.Reading.TheVariants.{Fine, Refused as Unread}
-use Rattle.record_rules.specs.Reading.{reading}
+use Rattle.record_rules.specs.Reading.{reading, Reading}
 use Rattle.record_rules.specs.Outcome.{Outcome, refused, accepted, values}
 use Rattle.record_rules.proofs.Must.{between_low, between_high, between_in}
 use Rattle.record_rules.proofs.Outcomes.{All, all-refused, all_accepted, all_read, all-only, all-next, all-size, by_reading, holds, fails, number-zero}
@@ -69,7 +68,7 @@ thirteen-fits Q (some q) t h = omega arith
 
 module _ (b : List ℕ) (bytes : Bytes b) where
   -- the places of reading
-  limit : (r : Refusal) → reading b ≡ Unread r → Small r.place
+  limit : (r : Refusal) → reading b ≡ Err r → Small r.place
   limit r e = omega (arith, refusal_limit b r e bytes)
 
   read_fits : Fit (λ n. Unit {0}) (read b)
@@ -98,7 +97,7 @@ module _ (b : List ℕ) (bytes : Bytes b) where
       let w = fine_well_formed b e in
       let l = between_low 1 (goal_count b) g t in
       let h = between_high 1 (goal_count b) g t in
-      (omega (arith, place_limit b w (g - 1) (omega arith), w.goals_to, length-between b (goal_place b g)), omega (arith, text_limit_lem b w g l h))))
+      (omega (arith, place_limit b w (g - 1) (omega arith), w.goals_to, length_between b (goal_place b g)), omega (arith, text_limit_lem b w g l h))))
 
   -- ---- i and j of a difference are goals, and the place of a text's refusal is at most 512
   abbrev Goals : Verdict → Type 0
@@ -145,12 +144,12 @@ module _ (b : List ℕ) (bytes : Bytes b) where
   thirteen-goals q e = go (reading b) refl
     where
       go : (s : Reading) → reading b ≡ s → (q.a < 2 ^ 6) × (q.b < 2 ^ 6) × (q.c < 2 ^ 6) × (q.d < 2 ^ 6)
-      go Fine f =
+      go (Ok _) f =
           let w = fine_well_formed b f in
           let g = (no_form_lem b w q (sym (shown-fine b f) ∙ e)).shape.goals in
           let m = w.goals_to in
           (omega (arith, g.0.1, m), omega (arith, g.1.1, m), omega (arith, g.2.1, m), omega (arith, g.3.1, m))
-      go (Unread r) f = absurd (let k = sym (shown-refused b r f) ∙ e in let z : ◌≡◌ {A = ℕ} 0 1 = cc in omega arith)
+      go (Err r) f = absurd (let k = sym (shown-refused b r f) ∙ e in let z : ◌≡◌ {A = ℕ} 0 1 = cc in omega arith)
 
   -- ---- MEL
   mel-fits : (buf : List ℕ) → Fit Small (mel_answer b buf)
@@ -255,7 +254,7 @@ module _ (b : List ℕ) where
       n : ℕ
       n = goal_count b
 
-      turned : (r : Refusal) → reading b ≡ Unread r → (r.number ≡ 0) ↔ (WellFormed b × (1 ≤ g) × (g ≤ n))
+      turned : (r : Refusal) → reading b ≡ Err r → (r.number ≡ 0) ↔ (WellFormed b × (1 ≤ g) × (g ≤ n))
       turned r q = (
         λ z. absurd (⊎_elim (λ a. omega (arith, a.0, z)) (λ a. omega (arith, a.0, z)) (refusal_number b r q)),
         λ h. absurd (let k = sym (well_formed_fine b h.0) ∙ q in let z : ◌≡◌ {A = ℕ} 0 1 = cc in omega arith),

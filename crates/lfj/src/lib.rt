@@ -10,17 +10,16 @@ ghost use Rattle.clause.specs.Clause as C;
 ghost use Rattle.form.specs.Form as F;
 ghost use Rattle.mel.specs.Annotation as M;
 ghost use Rattle.annotator.specs.Answers as P;
+ghost use Rattle.record_rules.specs.Outcome.{accepted, read_then};
 ghost use Rattle.record_rules.specs.Reading.{reading};
 ghost use Rattle.record_text.specs.Texts as T;
 ghost use Rattle.clause_facts.specs.Facts.{filled};
 ghost use Rattle.lfj_words.specs.Words as W;
 ghost use Rattle.lfj.specs.Calls as L;
 
-use annotator::{CheckAnswer, ReadAnswer};
-use form::FormAnswer;
+use form::FormError;
 use graph::Graph;
-use record_rules::{Reading, Refusal};
-use record_text::TextAnswer;
+use record_rules::Refusal;
 
 // The version of this interface.
 pub fn lfj_version() -> u32
@@ -34,8 +33,8 @@ pub fn lfj_read(bytes: &[u8]) -> u64
     ensures { result ≡ W.read_word (P.read bytes.now) }
 {
     match annotator::read(bytes) {
-        ReadAnswer::Refused(r) => lfj_words::refused(r),
-        ReadAnswer::Accepted(n) => n as u64,
+        Ok(n) => n as u64,
+        Err(r) => lfj_words::refused(r),
     }
 }
 
@@ -45,15 +44,13 @@ pub fn lfj_order(bytes: &[u8], rows: &mut [u32; Graph::MAX]) -> u64
     ensures rows_after { rows.new ≡ filled bytes.now (order bytes.now).rows rows.old }
 {
     let answer = annotator::order(bytes);
-    let reading = answer.reading;
-    match reading {
-        ReadAnswer::Refused(r) => lfj_words::refused(r),
-        ReadAnswer::Accepted(n) => {
-            let graph = answer.graph;
-            let closed = graph.rows;
+    match answer.reading {
+        Ok(n) => {
+            let closed = answer.graph.rows;
             *rows = closed;
             n as u64
         }
+        Err(r) => lfj_words::refused(r),
     }
 }
 
@@ -62,10 +59,9 @@ pub fn lfj_passes(bytes: &[u8]) -> u64
     ensures { result ≡ W.read_word (P.passes bytes.now) }
 {
     let answer = annotator::order(bytes);
-    let reading = answer.reading;
-    match reading {
-        ReadAnswer::Refused(r) => lfj_words::refused(r),
-        ReadAnswer::Accepted(_) => answer.passes as u64,
+    match answer.reading {
+        Ok(_) => u64::from(answer.passes),
+        Err(r) => lfj_words::refused(r),
     }
 }
 
@@ -74,20 +70,18 @@ pub fn lfj_after(bytes: &[u8], goal: u32) -> u64
     ensures { result ≡ W.after_word (L.after bytes.now goal) }
 {
     let answer = annotator::order(bytes);
-    let reading = answer.reading;
-    match reading {
-        ReadAnswer::Refused(r) => lfj_words::refused(r),
-        ReadAnswer::Accepted(n) => {
+    match answer.reading {
+        Ok(n) => {
             let g = goal as usize;
             if record_text::inside(g, n) {
-                let graph = answer.graph;
-                return graph.row(g) as u64;
+                return u64::from(answer.graph.row(g));
             }
             lfj_words::refused(Refusal {
                 number: 14,
                 place: 0,
             })
         }
+        Err(r) => lfj_words::refused(r),
     }
 }
 
@@ -96,21 +90,25 @@ pub fn lfj_form(bytes: &[u8], out: &mut [u8]) -> u64
     ensures value { result ≡ W.form_word (F.form_answer bytes.now out.old) (F.shown bytes.now) }
     ensures out_after { out.new ≡ F.form_buffer bytes.now out.old }
 {
-    match annotator::form(bytes, out) {
-        FormAnswer::Refused(r) => lfj_words::refused(r),
-        FormAnswer::NoForm(q) => lfj_words::no_form(q),
-        FormAnswer::Done(n) => lfj_words::low(n),
-    }
+    form_word(annotator::form(bytes, out))
 }
 
 // The form's length.
 pub fn lfj_form_length(bytes: &[u8]) -> u64
     ensures { result ≡ W.form_word (F.form_length bytes.now) (F.shown bytes.now) }
 {
-    match annotator::form_length(bytes) {
-        FormAnswer::Refused(r) => lfj_words::refused(r),
-        FormAnswer::NoForm(q) => lfj_words::no_form(q),
-        FormAnswer::Done(n) => lfj_words::low(n),
+    form_word(annotator::form_length(bytes))
+}
+
+// The word of a form's answer.
+#[tactic(auto, unfolding(lfj_words::specs::Words::form_word))]
+fn form_word(answer: Result<usize, FormError>) -> u64
+    ensures { result ≡ W.form_word (F.outcome answer) (F.goals answer) }
+{
+    match answer {
+        Ok(n) => lfj_words::low(n),
+        Err(FormError::NoForm(q)) => lfj_words::no_form(q),
+        Err(FormError::Refused(r)) => lfj_words::refused(r),
     }
 }
 
@@ -120,8 +118,8 @@ pub fn lfj_mel(bytes: &[u8], out: &mut [u8]) -> u64
     ensures out_after { out.new ≡ M.mel_buffer bytes.now out.old }
 {
     match annotator::mel(bytes, out) {
-        mel::MelAnswer::Refused(r) => lfj_words::refused(r),
-        mel::MelAnswer::Done(n) => lfj_words::low(n),
+        Ok(n) => lfj_words::low(n),
+        Err(r) => lfj_words::refused(r),
     }
 }
 
@@ -130,8 +128,8 @@ pub fn lfj_goal_text(bytes: &[u8], goal: u32) -> u64
     ensures { result ≡ L.text_word (T.goal_text bytes.now goal) }
 {
     match annotator::find_text(bytes, goal) {
-        TextAnswer::NoText(r) => lfj_words::refused(r),
-        TextAnswer::At(s) => lfj_words::span(s.place, s.size),
+        Ok(s) => lfj_words::span(s.place, s.size),
+        Err(r) => lfj_words::refused(r),
     }
 }
 
@@ -140,75 +138,71 @@ pub fn lfj_check(bytes: &[u8], text: &[u8]) -> u64
     ensures { result ≡ W.check_word (P.check bytes.now text.now) }
 {
     match annotator::check(bytes, text) {
-        CheckAnswer::Rejected(r) => lfj_words::refused(r),
-        CheckAnswer::Verdict(v) => lfj_words::verdict(v),
+        Ok(v) => lfj_words::verdict(v),
+        Err(r) => lfj_words::refused(r),
     }
 }
 
 // The facts of a clause, for planners.
 
-// The count of goals, and of variables, where reading refuses nothing.
-fn goals(said: Reading, bytes: &[u8]) -> u64
+// The word of a count, where reading refuses nothing.
+#[tactic(auto, using(record_rules::proofs::Outcomes::read_err, record_rules::proofs::Outcomes::read_ok), unfolding(lfj_words::specs::Words::read_word))]
+fn counted(bytes: &[u8], said: Result<(), Refusal>, count: usize) -> u64
     requires { said ≡ reading bytes.now }
-    ensures { result ≡ W.read_word (P.read bytes.now) }
+    ensures { result ≡ W.read_word (read_then bytes.now (accepted count)) }
 {
     match said {
-        Reading::Refused(r) => lfj_words::refused(r),
-        Reading::Fine => record_fields::goal_count(bytes) as u64,
-    }
-}
-
-fn variables(said: Reading, bytes: &[u8]) -> u64
-    requires { said ≡ reading bytes.now }
-    ensures { result ≡ W.read_word (L.variables bytes.now) }
-{
-    match said {
-        Reading::Refused(r) => lfj_words::refused(r),
-        Reading::Fine => record_fields::var_count(bytes) as u64,
+        Ok(()) => count as u64,
+        Err(r) => lfj_words::refused(r),
     }
 }
 
 // Fills `sets` with the variables of the goals, those of goal g at place g - 1: the goal count.
+#[tactic(auto, unfolding(annotator::specs::Answers::read))]
 pub fn lfj_goal_sets(bytes: &[u8], sets: &mut [u64; Graph::MAX]) -> u64
     ensures value { result ≡ W.read_word (P.read bytes.now) }
     ensures sets_after { sets.new ≡ filled bytes.now (C.goal_sets goal_limit bytes.now) sets.old }
 {
     let said = clause_facts::goal_sets(bytes, sets);
-    goals(said, bytes)
+    counted(bytes, said, record_fields::goal_count(bytes))
 }
 
 // Fills `sets` with the variables known ground at the goals, those at goal g at place g - 1: the goal count.
+#[tactic(auto, unfolding(annotator::specs::Answers::read))]
 pub fn lfj_ground_sets(bytes: &[u8], sets: &mut [u64; Graph::MAX]) -> u64
     ensures value { result ≡ W.read_word (P.read bytes.now) }
     ensures sets_after { sets.new ≡ filled bytes.now (C.ground_sets goal_limit bytes.now) sets.old }
 {
     let said = clause_facts::ground_sets(bytes, sets);
-    goals(said, bytes)
+    counted(bytes, said, record_fields::goal_count(bytes))
 }
 
 // Fills `ticks` with the ticks of the goals, those of goal g at place g - 1: the goal count.
+#[tactic(auto, unfolding(annotator::specs::Answers::read))]
 pub fn lfj_ticks(bytes: &[u8], ticks: &mut [u32; Graph::MAX]) -> u64
     ensures value { result ≡ W.read_word (P.read bytes.now) }
     ensures ticks_after { ticks.new ≡ filled bytes.now (C.goal_ticks goal_limit bytes.now) ticks.old }
 {
     let said = clause_facts::goal_ticks(bytes, ticks);
-    goals(said, bytes)
+    counted(bytes, said, record_fields::goal_count(bytes))
 }
 
 // Fills `rows` with the listed pairs, row x with the variables that are listed in a pair with x: the variable count.
+#[tactic(auto, unfolding(crate::specs::Calls::variables))]
 pub fn lfj_listed(bytes: &[u8], rows: &mut [u64; sets::VARIABLES]) -> u64
     ensures value { result ≡ W.read_word (L.variables bytes.now) }
     ensures rows_after { rows.new ≡ filled bytes.now (C.pair_rows variable_limit bytes.now) rows.old }
 {
     let said = clause_facts::listed_pairs(bytes, rows);
-    variables(said, bytes)
+    counted(bytes, said, record_fields::var_count(bytes))
 }
 
 // Puts the head's variables into `head`: the variable count.
+#[tactic(auto, unfolding(crate::specs::Calls::variables))]
 pub fn lfj_head(bytes: &[u8], head: &mut u64) -> u64
     ensures value { result ≡ W.read_word (L.variables bytes.now) }
     ensures head_after { head.new ≡ filled bytes.now (head_set bytes.now) head.old }
 {
     let said = clause_facts::head(bytes, head);
-    variables(said, bytes)
+    counted(bytes, said, record_fields::var_count(bytes))
 }

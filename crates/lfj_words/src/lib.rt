@@ -25,18 +25,21 @@ pub fn version() -> u32
 pub fn low(n: usize) -> u64
     ensures { result ≡ n % 2 ^ 32 }
 {
+    // `as`, here and below: Rust has no `From` from usize to u64.
     n as u64 % 0x1_0000_0000
 }
 
 // The word of a refusal.
+#[tactic(auto, unfolding(crate::specs::Words::refusal_word))]
 pub fn refused(r: Refusal) -> u64
     ensures { result ≡ W.refusal_word r.number r.place }
 {
-    let number = r.number as u64;
+    let number = u64::from(r.number);
     number * 0x100_0000_0000_0000 + low(r.place)
 }
 
 // The word of refusal 13 with its goals.
+#[tactic(auto, unfolding(crate::specs::Words::refusal_word, crate::specs::Words::form_word))]
 pub fn no_form(q: Four) -> u64
     ensures { result ≡ W.form_word (refused 13 0) (some (four q)) }
 {

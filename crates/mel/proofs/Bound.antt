@@ -8,15 +8,12 @@ use Prim.Native.Nat.{ℕ, zero, suc, ◌+◌, ◌-◌, ◌*◌, ◌≤◌, ◌<�
 use native.Mathlib.Nat.{le_step, suc-mul, mul-le-mul_right}
 use native.Mathlib.Decide.{ℕ_discrete}
 use native.Mathlib.Omega.{arith}
-use lib.Dec.{ltb}
-use lib.Pow.{pow_pos}
 use lib.ListN.{length, get_or, length-append, length-map}
-use Rattle.sets.specs.Sets.{goal_limit, variable_limit, has, union, count, members_from, members}
-use Rattle.sets.proofs.Builder.{union_lt}
+use Rattle.sets.specs.Sets.{goal_limit, variable_limit, has, count, members_from, members}
 use Rattle.sets.proofs.Members.{count-members, no_more}
 use Rattle.buffer.specs.Text.{non_empty}
 use Rattle.buffer.proofs.Decimal.{decimal-length}
-use Rattle.mel_stages.specs.Mel.{Ground, Indep, goal, start, checks}
+use Rattle.mel_stages.specs.Mel.{Ground, Indep, start, checks}
 use Rattle.mel_stages.specs.Masks.{given, once, twice, partners}
 use Rattle.mel_stages.proofs.Words.{occurs_out, occurs_in, shared_out}
 use Rattle.mel_stages.proofs.Masks.{has-once, has-twice}
@@ -38,23 +35,6 @@ members_width (suc w) i m = go (has m i) (members_width w (suc i) m)
     go : (s : Bool) → length (members_from w (suc i) m) ≤ w → length (cond s (i ∷ members_from w (suc i) m) (members_from w (suc i) m)) ≤ suc w
     go true l = suc-le-suc l
     go false l = le_step l
-
-count_most : (w m : ℕ) → m < 2 ^ w → count m ≤ w
-count_most w m h = omega (arith, count-members w m h, members_width w 0 m)
-
--- in a word of 64
-pub count_width : (m : ℕ) → m < 2 ^ 64 → count m ≤ 64
-count_width m h = count_most 64 m h
-
--- the variables of goals whose sets fit a word
-pub once_lt : (w : ℕ) (sets : List ℕ) → ((i : ℕ) → get_or sets i 0 < 2 ^ w) → (p q : ℕ) → once sets p q < 2 ^ w
-unfolding once goal
-once_lt w sets h p zero = pow_pos w
-once_lt w sets h p (suc q) = go (ltb p (suc q)) (once_lt w sets h p q)
-  where
-    go : (b : Bool) → once sets p q < 2 ^ w → cond b (union (once sets p q) (get_or sets (suc q - 1) 0)) (once sets p q) < 2 ^ w
-    go true l = union_lt w (once sets p q) (get_or sets (suc q - 1) 0) l (h (suc q - 1))
-    go false l = l
 
 -- the numbers of the bound fit a machine's number
 pub square : (v : ℕ) → v ≤ variable_limit → v * v ≤ variable_limit * v

@@ -9,14 +9,17 @@ use lib.Dec.{ltb}
 use lib.ListN.{length, take, get_or, length-map}
 use borrow.Author.Tests.{lt-ltb}
 use Rattle.logic.specs.Table.{table_from}
-use Rattle.logic.proofs.Table.{table_at, table-length}
+use Rattle.logic.proofs.Table.{table_at}
 use Rattle.sets.specs.Sets.{goal_limit, variable_limit, has, set_of}
 use Rattle.sets.proofs.Membership.{has_empty}
 use Rattle.sets.proofs.Builder.{has-set_of_in}
 use Rattle.independence.specs.Independence.{known_independent}
 use Rattle.clause.specs.declared.Clause.{Clause}
 use Rattle.clause.specs.Clause.{goal_sets, ground_sets, pair_rows, decoded}
-use Rattle.clause.proofs.Decoded.{clause-count}
+use Rattle.clause.proofs.Decoded.{clause-few}
+use Rattle.std.specs.Prelude.{Ok}
+use Rattle.record_rules.specs.Reading.{reading}
+use Rattle.record.proofs.WellFormed.{fine_well_formed}
 use Rattle.record_fields.specs.Facts.{ground_at, free_at}
 use Rattle.record_fields.specs.Fields.{goal_count, head_set, goal_set, listed}
 use Rattle.record.specs.WellFormed.{WellFormed}
@@ -105,7 +108,6 @@ module _ (b : List ℕ) (w : WellFormed b) (c : Clause) (e : c ≡ decoded b) wh
   unfolding decoded
   clause-length = ap (λ (x : Clause). length (take x.n x.sets)) e ∙ facts_length b w.goals_to
 
-  pub clause-room : c.n ≤ length c.sets
-  unfolding decoded goal_sets
-  clause-room =
-      omega (arith, clause-count b w c e, w.goals_to, ap (λ (x : Clause). length x.sets) e, table-length goal_limit (goal_count b) (λ i. goal_set b (suc i)))
+-- of one that was read
+pub read_few : (b : List ℕ) (c : Clause) → reading b ≡ Ok tt → c ≡ decoded b → c.n ≤ 32
+read_few b c e d = clause-few b (fine_well_formed b e) c d

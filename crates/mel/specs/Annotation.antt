@@ -5,9 +5,7 @@ use Rattle.independence.specs.Independence.{known_independent}
 use Rattle.record_fields.specs.Facts.{ground_at, free_at}
 use Rattle.record_fields.specs.Fields.{goal_count, head_set, goal_set, listed}
 use Rattle.mel_stages.specs.Mel.{Facts, goals_from, mel_text}
-use Rattle.record_rules.specs.Outcome.{Outcome, refused, accepted, read_then, size_in, buffer_after}
-use Rattle.mel.specs.declared.MelAnswer.{MelAnswer}
-use Rattle.mel.specs.declared.MelAnswer.TheVariants as W
+use Rattle.record_rules.specs.Outcome.{Outcome, accepted, read_then, size_in, buffer_after}
 
 -- What the annotation reads of a record. 01: "Two variables are known independent if their pair is listed or either is ground"; no variable is known independent
 -- of every other. 02, 1: "a MEL stage by that at its first goal": the facts at goal g are those of the stage whose first goal it is.
@@ -34,8 +32,3 @@ mel_answer b buf = size_in (mel_outcome b) buf
 
 abbrev pub mel_buffer : List ℕ → List ℕ → List ℕ
 mel_buffer b buf = buffer_after (mel_outcome b) buf
-
--- the outcome that the program's answer is
-abbrev pub outcome : MelAnswer → Outcome ℕ
-outcome (W.Done n) = accepted n
-outcome (W.Refused r) = refused r.number r.place

@@ -3,12 +3,12 @@ use mathlib.Core.Path.{◌≡◌, refl, sym, ap, ap₂, ◌∙◌}
 use mathlib.Core.Logic.{inl, inr}
 use mathlib.Core.Bool.{Bool, true}
 use mathlib.Core.List.{List, [], ◌∷◌, ◌++◌, map, append_assoc}
-use Prim.Native.Nat.{ℕ, ◌+◌, ◌<◌, ◌^◌}
+use Prim.Native.Nat.{ℕ, ◌+◌}
 use native.Mathlib.Omega.{arith}
 use lib.ListN.{length, get_or, length-append}
 use lib.Seq as Q
-use Rattle.sets.specs.Sets.{without, single, first, members}
-use Rattle.sets.proofs.Members.{In, in_members, members_step, members-none}
+use Rattle.sets.specs.Sets.{members}
+use Rattle.sets.proofs.Members.{In, in_members, members-none}
 use Rattle.buffer.specs.Text.{only}
 use Rattle.buffer.specs.Decimal.{decimal}
 use Rattle.buffer.proofs.Writing.{join_step, join_none}
@@ -41,41 +41,33 @@ checks-append (c ∷ a) b =
 
 -- ---- the steps of the loops
 
-pub grounds_step : (w rest : ℕ) → rest < 2 ^ w → (rest ≡ 0 → ⊥)
-    → grounds_text w rest ≡ item (Ground (first w rest)) ++ grounds_text w (without rest (single (first w rest)))
+pub grounds_step : (w rest rest' x : ℕ) → members w rest ≡ x ∷ members w rest' → grounds_text w rest ≡ item (Ground x) ++ grounds_text w rest'
 unfolding grounds_text
-grounds_step w rest h n =
-    ap (λ (l : List ℕ). checks_from true (map Ground l)) (members_step w rest h n)
-    ∙ item-step (Ground (first w rest)) (map Ground (members w (without rest (single (first w rest)))))
+grounds_step w rest rest' x e = ap (λ (l : List ℕ). checks_from true (map Ground l)) e ∙ item-step (Ground x) (map Ground (members w rest'))
 
-pub grounds_end : (w rest : ℕ) → rest ≡ 0 → grounds_text w rest ≡ []
+pub grounds_end : (w rest : ℕ) → members w rest ≡ [] → grounds_text w rest ≡ []
 unfolding grounds_text
-grounds_end w rest e = rw (e, members-none w) (checks-none true)
+grounds_end w rest e = rw e (checks-none true)
 
-pub row_step : (w x rest : ℕ) → rest < 2 ^ w → (rest ≡ 0 → ⊥)
-    → row_text w x rest ≡ item (Indep x (first w rest)) ++ row_text w x (without rest (single (first w rest)))
+pub row_step : (w x rest rest' y : ℕ) → members w rest ≡ y ∷ members w rest' → row_text w x rest ≡ item (Indep x y) ++ row_text w x rest'
 unfolding row_text
-row_step w x rest h n =
-    ap (λ (l : List ℕ). checks_from true (map (Indep x) l)) (members_step w rest h n)
-    ∙ item-step (Indep x (first w rest)) (map (Indep x) (members w (without rest (single (first w rest)))))
+row_step w x rest rest' y e = ap (λ (l : List ℕ). checks_from true (map (Indep x) l)) e ∙ item-step (Indep x y) (map (Indep x) (members w rest'))
 
-pub row-end : (w x rest : ℕ) → rest ≡ 0 → row_text w x rest ≡ []
+pub row-end : (w x rest : ℕ) → members w rest ≡ [] → row_text w x rest ≡ []
 unfolding row_text
-row-end w x rest e = rw (e, members-none w) (checks-none true)
+row-end w x rest e = rw e (checks-none true)
 
 module _ (w : ℕ) (own listed : List ℕ) (k : ℕ) where
-  pub rows_step : (rest : ℕ) → rest < 2 ^ w → (rest ≡ 0 → ⊥) →
-      let x = first w rest in
-      rows_text w own listed k rest ≡ row_text w x (apart k (get_or listed x 0) (get_or own x 0) x) ++ rows_text w own listed k (without rest (single x))
+  pub rows_step : (rest rest' x : ℕ) → members w rest ≡ x ∷ members w rest'
+      → rows_text w own listed k rest ≡ row_text w x (apart k (get_or listed x 0) (get_or own x 0) x) ++ rows_text w own listed k rest'
   unfolding rows_text row_text rows_of
-  rows_step rest h n =
-      let x = first w rest in
-      ap (λ (l : List ℕ). checks_from true (rows_of w own listed k l)) (members_step w rest h n)
-      ∙ checks-append (map (Indep x) (members w (apart k (get_or listed x 0) (get_or own x 0) x))) (rows_of w own listed k (members w (without rest (single x))))
+  rows_step rest rest' x e =
+      ap (λ (l : List ℕ). checks_from true (rows_of w own listed k l)) e
+      ∙ checks-append (map (Indep x) (members w (apart k (get_or listed x 0) (get_or own x 0) x))) (rows_of w own listed k (members w rest'))
 
-  pub rows_end : (rest : ℕ) → rest ≡ 0 → rows_text w own listed k rest ≡ []
+  pub rows_end : (rest : ℕ) → members w rest ≡ [] → rows_text w own listed k rest ≡ []
   unfolding rows_text rows_of
-  rows_end rest e = rw (e, members-none w) (checks-none true)
+  rows_end rest e = rw e (checks-none true)
 
 module _ (w : ℕ) (sets listed : List ℕ) (p q k : ℕ) where
   pub pairs-none : k ≡ 0 → [] ≡ pairs_text w sets listed p q k k

@@ -9,6 +9,9 @@ ghost use Rattle.buffer.specs.Decimal.{decimal};
 ghost use Rattle.mel_stages.specs.Mel as W;
 ghost use Rattle.mel_checks.specs.CheckTexts as C;
 
+use mel_stages::Stage;
+use sets::Set;
+
 // Writes a comma and one check of a variable.
 fn put_ground(out: &mut [u8], at: usize, x: usize) -> usize
     requires { at + length (C.item (W.Ground x)) < 2 ^ 63 }
@@ -57,32 +60,28 @@ pub fn put_grounds(out: &mut [u8], at: usize, m: u64) -> usize
     ensures { Wrote (C.grounds_text variable_limit m) at out.old result out.new }
 {
     let mut o = at;
-    let mut rest = m;
-    while rest != 0 {
-        let x = sets::first(rest);
-        o = put_ground(out, o, x as usize);
-        rest = sets::without_first(rest);
+    for x in m.members() {
+        o = put_ground(out, o, x);
     }
     o
 }
 
 // Writes the check of x with each variable of the set m, ascending, a comma before each.
+#[tactic(auto, using(sets::proofs::Members::step_in))]
 fn put_row(out: &mut [u8], at: usize, x: usize, m: u64) -> usize
     requires x_bound { x < 100 }
     requires m_bound { at + length (C.row_text variable_limit x m) < 2 ^ 63 }
     ensures { Wrote (C.row_text variable_limit x m) at out.old result out.new }
 {
     let mut o = at;
-    let mut rest = m;
-    while rest != 0 {
-        let y = sets::first(rest);
-        o = put_indep(out, o, x, y as usize);
-        rest = sets::without_first(rest);
+    for y in m.members() {
+        o = put_indep(out, o, x, y);
     }
     o
 }
 
 // Writes the check of each candidate with its partners, ascending, a comma before each; own has the set of each candidate's goal.
+#[tactic(auto, using(sets::proofs::Members::step_in))]
 fn put_rows(
     out: &mut [u8],
     at: usize,
@@ -94,34 +93,29 @@ fn put_rows(
     ensures { Wrote (C.rows_text variable_limit own.now listed.now k k) at out.old result out.new }
 {
     let mut o = at;
-    let mut rest = k;
-    while rest != 0 {
-        let x = sets::first(rest);
-        let others = mel_stages::partners(k, listed[x as usize], own[x as usize], x);
-        o = put_row(out, o, x as usize, others);
-        rest = sets::without_first(rest);
+    for x in k.members() {
+        let others = mel_stages::partners(k, listed[x], own[x], x);
+        o = put_row(out, o, x, others);
     }
     o
 }
 
-// Writes the independence checks of the candidates k of the stage p+1 to q.
+// Writes the independence checks of the candidates k of a stage.
 pub fn put_pairs(
     out: &mut [u8],
     at: usize,
     sets: &[u64],
     listed: &[u64; sets::VARIABLES],
-    p: usize,
-    q: usize,
+    stage: Stage,
     k: u64,
 ) -> usize
-    requires p_le_q { (p ≤ q) × (q < 2 ^ 32) }
-    requires k_bound { at + length (C.pairs_text variable_limit sets.now listed.now p q k k) < 2 ^ 63 }
-    ensures { Wrote (C.pairs_text variable_limit sets.now listed.now p q k k) at out.old result out.new }
+    requires { at + length (C.pairs_text variable_limit sets.now listed.now stage.after stage.last k k) < 2 ^ 63 }
+    ensures { Wrote (C.pairs_text variable_limit sets.now listed.now stage.after stage.last k k) at out.old result out.new }
 {
     if k == 0 {
         return at;
     }
     let mut own = [0u64; sets::VARIABLES];
-    mel_stages::own_goals(&mut own, sets, p, q, k);
+    mel_stages::own_goals(&mut own, sets, stage, k);
     put_rows(out, at, &own, listed, k)
 }

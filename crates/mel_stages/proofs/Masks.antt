@@ -8,7 +8,7 @@ use native.Mathlib.Nat.{eq-or-lt_of_le, le_of_suc-le-suc, le_step, lt-suc_self, 
 use native.Mathlib.Numerals.{add-one}
 use native.Mathlib.Omega.{arith}
 use lib.Dec.{ltb}
-use lib.ListN.{length, get_or, set, replicate, get_or-eq_default}
+use lib.ListN.{length, get_or, set, replicate}
 use borrow.Author.Tests.{lt-ltb}
 use Rattle.logic.specs.Table.{table}
 use Rattle.logic.proofs.Table.{table_at, table-zero, table_more}
@@ -20,9 +20,13 @@ use Rattle.mel_stages.specs.Masks.{once, twice, up_to, goal_with_from, goal_with
 use Rattle.mel_stages.specs.Plain.{Twice}
 use Rattle.mel_stages.proofs.Words.{Some, occurs_out, occurs_in, shared_out, shared_in}
 
-pub goal_out : (sets : List ℕ) (g : ℕ) → length sets ≤ g - 1 → 0 ≡ goal sets g
+pub goal_at : (sets : List ℕ) (g : ℕ) → get_or sets g 0 ≡ goal sets (g + 1)
 unfolding goal
-goal_out sets g h = sym (get_or-eq_default sets 0 h)
+goal_at sets g = let e : g + 1 - 1 ≡ g = omega arith in rw e
+
+pub goal_before : (sets : List ℕ) (g : ℕ) → get_or sets (g - 1) 0 ≡ goal sets g
+unfolding goal
+goal_before sets g = refl
 
 module _ (sets : List ℕ) (p : ℕ) where
   pub has-once : (q x : ℕ) → has (once sets p q) x ≡ occurs sets p q x
@@ -119,12 +123,24 @@ module _ (places : ℕ) (sets : List ℕ) where
   pub upto_none : replicate places 0 ≡ filled 0
   upto_none = table-zero places (λ g. once sets 0 g)
 
+  filled_at : (k g : ℕ) → g < k → g < places → get_or (filled k) g 0 ≡ once sets 0 g
+  filled_at k g h l = table_at places k (λ g. once sets 0 g) g l h
+
   pub upto_more : (g : ℕ) (l : List ℕ) (v : ℕ) → g < places → l ≡ filled g → v ≡ once sets 0 g → set l g v ≡ filled (g + 1)
   upto_more g l v h e q = table_more places g (λ g. once sets 0 g) l v h e q
+
+  -- one place more, from the place before it
+  pub upto_next : (g : ℕ) (l : List ℕ) (v : ℕ) → g + 1 < places → l ≡ filled (g + 1) → v ≡ union (get_or l g 0) (get_or sets g 0) → set l (g + 1) v ≡ filled (g + 1 + 1)
+  upto_next g l v h e q =
+      let m : get_or l g 0 ≡ once sets 0 g = ap (λ (k : List ℕ). get_or k g 0) e ∙ filled_at (g + 1) g (omega arith) (omega arith) in
+      upto_more (g + 1) l v h e (q ∙ once_more sets 0 g (get_or l g 0) (get_or sets g 0) (omega arith) m (goal_at sets g))
 
   pub upto_all : (k : ℕ) → length sets < k → k ≤ length sets + 1 → filled k ≡ up_to places sets
   unfolding up_to
   upto_all k h l = let e : k ≡ length sets + 1 = omega arith in ap filled e
+
+pub upto_first : (w : ℕ) (sets : List ℕ) → replicate (suc w) 0 ≡ filled (suc w) sets 1
+upto_first w sets = upto_more (suc w) sets 0 (replicate (suc w) 0) 0 (omega arith) (upto_none (suc w) sets) (once-none sets 0)
 
 -- ---- the goal that holds a variable
 

@@ -1,41 +1,34 @@
 -- Laws of the sets of the candidates' goals, which the code finds once for a stage.
 use mathlib.Core.Path.{◌≡◌, refl, sym, ap, ◌∙◌}
-use mathlib.Core.Bool.{Bool, true, false, ◌&&◌, cond}
+use mathlib.Core.Bool.{Bool, true, false, ◌&&◌, ◌||◌, cond}
 use mathlib.Core.List.{List}
-use Prim.Native.Nat.{ℕ, ◌+◌, ◌-◌, ◌≤◌, ◌<◌, ◌^◌}
+use Prim.Native.Nat.{ℕ, ◌+◌, ◌-◌, ◌≤◌, ◌<◌}
 use native.Mathlib.Nat.{le_refl}
 use native.Mathlib.Omega.{arith}
 use lib.Dec.{eqb}
 use lib.ListN.{length, get_or, set, replicate, get_or-replicate}
 use lib.Seq.{get_or-set_same, get_or-set_other}
 use borrow.Author.Tests.{eqb-true, eqb-false}
-use Rattle.sets.specs.Sets.{has, meet, without, single, first}
-use Rattle.sets.proofs.Membership.{has_empty, has_meet, first_member}
-use Rattle.sets.proofs.Members.{first_in_lem, other, gone}
+use Rattle.sets.specs.Sets.{has, meet}
+use Rattle.sets.proofs.Membership.{has_meet}
 use Rattle.mel_stages.specs.Mel.{goal}
 use Rattle.mel_stages.specs.Masks.{goal_with, Noted, OwnGoals}
 use Rattle.mel_stages.proofs.Masks.{goal_with-here, goal_with-on, goal_with-none}
 
--- one store
-pub note_step : (w : ℕ) (own : List ℕ) (rest s : ℕ) → length own ≡ w → rest < 2 ^ w → (rest ≡ 0 → ⊥) → (x : ℕ)
-    → cond (has (without rest (single (first w rest))) x) s (get_or (set own (first w rest) s) x 0) ≡ cond (has rest x) s (get_or own x 0)
-note_step w own rest s len h n x = go (eqb (first w rest) x) refl
+-- one store; `more` says whether a later one is at place x
+pub note_more : (more : Bool) (own : List ℕ) (y s x : ℕ) → x < length own → cond more s (get_or (set own y s) x 0) ≡ cond (eqb y x || more) s (get_or own x 0)
+note_more more own y s x h = go (eqb y x) refl
   where
-    go : (b : Bool) → eqb (first w rest) x ≡ b
-        → cond (has (without rest (single (first w rest))) x) s (get_or (set own (first w rest) s) x 0) ≡ cond (has rest x) s (get_or own x 0)
-    go true e =
-        let i : first w rest ≡ x = eqb-true (first w rest) x e in
-        let l = first_in_lem w rest h n in
-        let in_rest : has rest x ≡ true = ap (has rest) (sym i) ∙ first_member w rest l in
-        let out : has (without rest (single (first w rest))) x ≡ false = ap (has (without rest (single (first w rest)))) (sym i) ∙ gone rest (first w rest) in
-        let stored : get_or (set own (first w rest) s) x 0 ≡ s = ap (λ (k : ℕ). get_or (set own (first w rest) s) k 0) (sym i) ∙ get_or-set_same own (first w rest) s 0 (omega (arith, l, len)) in
-        rw (out, in_rest) stored
-    go false e =
-        let d : first w rest ≡ x → ⊥ = eqb-false (first w rest) x e in
-        rw (other rest (first w rest) x d, get_or-set_other own (first w rest) x s 0 (λ t. d (sym t)))
+    same : (b : Bool) → cond b s s ≡ s
+    same true = refl
+    same false = refl
 
-pub note_end : (own : List ℕ) (rest s x : ℕ) → rest ≡ 0 → cond (has rest x) s (get_or own x 0) ≡ get_or own x 0
-note_end own rest s x e = rw (e, has_empty x)
+    go : (b : Bool) → eqb y x ≡ b → cond more s (get_or (set own y s) x 0) ≡ cond (b || more) s (get_or own x 0)
+    go true e =
+        let i : y ≡ x = eqb-true y x e in
+        let stored : get_or (set own y s) x 0 ≡ s = ap (λ (k : ℕ). get_or (set own k s) x 0) i ∙ get_or-set_same own x s 0 h in
+        rw stored (same more)
+    go false e = let d : y ≡ x → ⊥ = eqb-false y x e in rw (get_or-set_other own y x s 0 (λ t. d (sym t)))
 
 -- nothing is stored yet
 pub own-none : (w : ℕ) (sets : List ℕ) (q k : ℕ) (own : List ℕ) → own ≡ replicate w 0 → OwnGoals w sets q q k own

@@ -1,7 +1,6 @@
--- Laws of the arrow and of the goals of a stage.
+-- Laws of the goals of a stage.
 use mathlib.Core.Path.{◌≡◌}
-use mathlib.Core.Bool.{Bool, true, false}
-use mathlib.Core.List.{List, [], ◌∷◌, ◌++◌, map}
+use mathlib.Core.List.{List, [], ◌++◌, map}
 use Prim.Native.Nat.{ℕ, suc, ◌+◌, ◌-◌, ◌≤◌, ◌<◌, suc-le-suc}
 use native.Mathlib.Nat.{le_refl}
 use native.Mathlib.Numerals.{add-one}
@@ -11,18 +10,9 @@ use borrow.Author.Tests.{lt-ltb, le-ltb}
 use Rattle.buffer.specs.Text.{join_from, only}
 use Rattle.buffer.specs.Decimal.{decimal}
 use Rattle.buffer.proofs.Writing.{join_step, join_none}
-use Rattle.mel_stages.specs.Mel.{goals_from, arrow_if, goals_text}
+use Rattle.mel_stages.specs.Mel.{goals_from, goals_text}
 
-pub arrow_on : (on : Bool) → on ≡ true → 61 ∷ 62 ∷ [] ≡ arrow_if on
-unfolding arrow_if
-arrow_on on h = rw h
-
-pub arrow_off : (on : Bool) → on ≡ false → [] ≡ arrow_if on
-unfolding arrow_if
-arrow_off on h = rw h
-
--- ---- the goals of a stage; what is left of them after goal g
-
+-- what is left of the goals of a stage after goal g
 pub goals_left : ℕ → ℕ → ℕ → List ℕ
 goals_left p g q = join_from (ltb p g) 38 (map decimal (goals_from (q - g) g))
 

@@ -6,29 +6,22 @@ ghost use Rattle.sets.specs.Sets as S;
 ghost use Rattle.independence.specs.Ties.{ties_of};
 ghost use Rattle.order.specs.Arrays as W;
 
+use clause::Clause;
 use graph::{Closed, Graph};
 use independence::Halves;
+use sets::Set;
 
-// Puts the ties of each of the n goals, the variables that make a later goal wait for it, into two arrays of zeros: the low halves and the high ones. No
-// variable is known independent of every other.
-fn put_ties(
-    low: &mut [u32; Graph::MAX],
-    high: &mut [u32; Graph::MAX],
-    n: usize,
-    sets: &[u64; Graph::MAX],
-    grounds: &[u64; Graph::MAX],
-    listed: &[u64; sets::VARIABLES],
-)
-    requires { (n ≤ S.goal_limit) × (low.old ≡ replicate S.goal_limit 0) × (high.old ≡ replicate S.goal_limit 0) }
-    ensures low_after { low.new ≡ W.low_ties S.goal_limit 32 S.variable_limit n sets.now grounds.now listed.now }
-    ensures high_after { high.new ≡ W.high_ties S.goal_limit 32 S.variable_limit n sets.now grounds.now listed.now }
+// Puts the ties of each goal, the variables that make a later goal wait for it, into two arrays of zeros: the low halves and the high ones. No variable is known
+// independent of every other.
+fn put_ties(low: &mut [u32; Graph::MAX], high: &mut [u32; Graph::MAX], c: &Clause)
+    requires { (c.now.n ≤ S.goal_limit) × (low.old ≡ replicate S.goal_limit 0) × (high.old ≡ replicate S.goal_limit 0) }
+    ensures low_after { low.new ≡ W.low_ties S.goal_limit 32 S.variable_limit c.now.n c.now.sets c.now.grounds c.now.listed }
+    ensures high_after { high.new ≡ W.high_ties S.goal_limit 32 S.variable_limit c.now.n c.now.sets c.now.grounds c.now.listed }
 {
-    let mut i = 0;
-    while i < n {
-        let ties = Halves::of(independence::ties(sets[i], grounds[i], 0, listed));
+    for i in 0..c.n {
+        let ties = Halves::of(independence::ties(c.sets[i], c.grounds[i], 0, &c.listed));
         low[i] = ties.low;
         high[i] = ties.high;
-        i += 1;
     }
 }
 
@@ -36,7 +29,7 @@ fn put_ties(
 fn with(row: u32, one: u32, add: bool) -> u32
     ensures { result ≡ cond add (S.union row one) row }
 {
-    if add { sets::union32(row, one) } else { row }
+    if add { row.union(one) } else { row }
 }
 
 // Puts goals j + 1 and j + 2, of the variable sets `later` and `next`, into the rows of the earlier goals for which they wait. Row by row, so that the rows and
@@ -56,15 +49,13 @@ fn put_two(
     let two = Graph::single(j + 2);
     let x = Halves::of(later);
     let y = Halves::of(next);
-    let mut i = 0;
-    while i < j {
+    for i in 0..j {
         let ties = Halves {
             low: low[i],
             high: high[i],
         };
         let row = with(rows[i], one, independence::waits(ties, x));
         rows[i] = with(row, two, independence::waits(ties, y));
-        i += 1;
     }
     let ties = Halves {
         low: low[j],
@@ -73,58 +64,43 @@ fn put_two(
     rows[j] = with(rows[j], two, independence::waits(ties, y));
 }
 
-// The waits of n goals, before closure: each later goal is judged by every earlier one, with the variables known ground at the earlier one. The last of an odd
-// count is put with an empty set, which waits for nothing.
-pub fn waits_of<'a>(
-    n: usize,
-    sets: &'a [u64; Graph::MAX],
-    grounds: &'a [u64; Graph::MAX],
-    listed: &'a [u64; sets::VARIABLES],
-) -> Graph
-    requires { n ≤ S.goal_limit }
-    ensures { result ≡ W.wait_rows S.variable_limit n sets.now grounds.now listed.now }
+// The waits of a clause's goals, before closure: each later goal is judged by every earlier one, with the variables known ground at the earlier one. The last of an
+// odd count is put with an empty set, which waits for nothing.
+pub fn waits_of(c: &Clause) -> Graph
+    requires { c.now.n ≤ S.goal_limit }
+    ensures { result ≡ W.wait_rows S.variable_limit c.now.n c.now.sets c.now.grounds c.now.listed }
 {
+    // Low and high halves apart, so that a processor takes several goals' at once.
     let mut low = [0u32; Graph::MAX];
     let mut high = [0u32; Graph::MAX];
-    put_ties(&mut low, &mut high, n, sets, grounds, listed);
-    let mut waits = Graph::empty(n);
-    let mut j = 0;
-    while j + 1 < n {
-        put_two(&mut waits.rows, &low, &high, sets[j], sets[j + 1], j);
-        j += 2;
+    put_ties(&mut low, &mut high, c);
+    let mut waits = Graph::empty(c.n);
+    for k in 0..c.n / 2 {
+        let j = 2 * k;
+        put_two(&mut waits.rows, &low, &high, c.sets[j], c.sets[j + 1], j);
     }
-    if j < n {
-        put_two(&mut waits.rows, &low, &high, sets[j], 0, j);
+    if c.n % 2 == 1 {
+        let j = c.n - 1;
+        put_two(&mut waits.rows, &low, &high, c.sets[j], 0, j);
     }
     waits
 }
 
-// The order of n goals, which is the closure of their waits, and the number of passes that closing them took.
-pub fn closure_of<'a>(
-    n: usize,
-    sets: &'a [u64; Graph::MAX],
-    grounds: &'a [u64; Graph::MAX],
-    listed: &'a [u64; sets::VARIABLES],
-) -> Closed
-    requires { n ≤ S.goal_limit }
-    ensures graph_value { result.graph ≡ W.order_rows S.variable_limit n sets.now grounds.now listed.now }
-    ensures passes_value { result.passes ≡ W.passes_of S.variable_limit n sets.now grounds.now listed.now }
+// The order of a clause's goals, which is the closure of their waits, and the number of passes that closing them took.
+pub fn closure_of(c: &Clause) -> Closed
+    requires { c.now.n ≤ S.goal_limit }
+    ensures graph_value { result.graph ≡ W.order_rows S.variable_limit c.now.n c.now.sets c.now.grounds c.now.listed }
+    ensures passes_value { result.passes ≡ W.passes_of S.variable_limit c.now.n c.now.sets c.now.grounds c.now.listed }
 {
-    waits_of(n, sets, grounds, listed).closed()
+    waits_of(c).closed()
 }
 
 // The order alone.
-pub fn order_of<'a>(
-    n: usize,
-    sets: &'a [u64; Graph::MAX],
-    grounds: &'a [u64; Graph::MAX],
-    listed: &'a [u64; sets::VARIABLES],
-) -> Graph
-    requires { n ≤ S.goal_limit }
-    ensures { result ≡ W.order_rows S.variable_limit n sets.now grounds.now listed.now }
+pub fn order_of(c: &Clause) -> Graph
+    requires { c.now.n ≤ S.goal_limit }
+    ensures { result ≡ W.order_rows S.variable_limit c.now.n c.now.sets c.now.grounds c.now.listed }
 {
-    let closed = closure_of(n, sets, grounds, listed);
-    closed.graph
+    closure_of(c).graph
 }
 
 // The ties with those of a goal, of this variable set and this ground set, if they are to be added.
@@ -132,32 +108,24 @@ fn with_ties(ties: u64, set: u64, grounded: u64, listed: &[u64; sets::VARIABLES]
     ensures { result ≡ cond add (S.union ties (ties_of grounded 0 listed.now S.variable_limit set)) ties }
 {
     if add {
-        return sets::union(ties, independence::ties(set, grounded, 0, listed));
+        return ties.union(independence::ties(set, grounded, 0, listed));
     }
     ties
 }
 
-// Those of n goals that wait for a goal of the set `left`. What ties a later goal to one of several is in the union of their ties, so that one pass over the goals
-// tells it.
-pub fn waiting_for<'a>(
-    n: usize,
-    sets: &'a [u64; Graph::MAX],
-    grounds: &'a [u64; Graph::MAX],
-    listed: &'a [u64; sets::VARIABLES],
-    left: u32,
-) -> u32
-    requires { n ≤ S.goal_limit }
-    ensures { result ≡ W.waiting_for S.variable_limit n sets.now grounds.now listed.now left }
+// Those of a clause's goals that wait for a goal of the set `left`. What ties a later goal to one of several is in the union of their ties, so that one pass over
+// the goals tells it.
+pub fn waiting_for(c: &Clause, left: u32) -> u32
+    requires { c.now.n ≤ S.goal_limit }
+    ensures { result ≡ W.waiting_for S.variable_limit c.now.n c.now.sets c.now.grounds c.now.listed left }
 {
     let mut ties = 0u64;
     let mut found = 0u32;
-    let mut j = 0;
-    while j < n {
-        let set = sets[j];
+    for j in 0..c.n {
+        let set = c.sets[j];
         let tied = independence::waits(Halves::of(ties), Halves::of(set));
         found = with(found, Graph::single(j + 1), tied);
-        ties = with_ties(ties, set, grounds[j], listed, sets::has32(left, j));
-        j += 1;
+        ties = with_ties(ties, set, c.grounds[j], &c.listed, left.has(j));
     }
     found
 }

@@ -126,10 +126,8 @@ module _ (n : ℕ) (a b : List ℕ) where
       in_set : has (set_of k apart) i ≡ true
       in_set = ap₂ (λ u v. has u v) (sym m) e ∙ first_member 32 set (first_in_lem 32 set small some_one)
 
-      pub compare_row : (i < n) × (i < goal_limit)
-      compare_row =
-          let l : i < k = ltb-true i k (and_l (ltb i k) (apart i) (sym (has-set_of k apart i) ∙ in_set)) in
-          (omega arith, omega arith)
+      compare_row : i < n
+      compare_row = let l : i < k = ltb-true i k (and_l (ltb i k) (apart i) (sym (has-set_of k apart i) ∙ in_set)) in omega arith
 
       uneven : x i ≡ 0 → ⊥
       uneven z = true≢false (sym in_set ∙ has-set_of k apart i ∙ ap (λ v. ltb i k && not (eqb v 0)) z ∙ and-false (ltb i k))
@@ -138,16 +136,13 @@ module _ (n : ℕ) (a b : List ℕ) where
         first_is : j ≡ first 32 (x i)
         first_is = q ∙ ap (λ z. first 32 (meet z (union (without (get_or a i 0) (get_or b i 0)) (without (get_or b i 0) (get_or a i 0))))) g
 
-        pub compare_place : j < goal_limit
-        compare_place = subst (λ z. z < goal_limit) (sym first_is) (first_in_lem 32 (x i) (odd_lt n (get_or a i 0) (get_or b i 0) few) uneven)
-
         pub compare_hit : Differs (record { i = i + 1; j = j + 1 }) ≡ said (first_differ n (ahead a) (ahead b))
         unfolding first_differ
         compare_hit =
             rw (add-one i, add-one j, first_is)
             (sym
             (ap said
-            (passed_hit n row (suc i, suc (first 32 (x i))) i compare_row.0 (row-hit i few uneven)
+            (passed_hit n row (suc i, suc (first 32 (x i))) i compare_row (row-hit i few uneven)
             (passed_skip n row i (λ h l o. unmarked h o (first_least 32 set h (omega (arith, e))))))))
 
 -- what is said is the verdict of the paper

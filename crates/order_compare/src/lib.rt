@@ -8,14 +8,17 @@ ghost use Rattle.expression_grammar.specs.Check.{first_differ};
 ghost use Rattle.order_compare.specs.Verdicts.{said};
 
 use graph::Graph;
+use sets::Set;
 
-#[derive(Drop)]
+// Goals i and j, of which just one of the two orders has i before j.
+#[derive(Clone, Copy, Debug, PartialEq, Eq)]
 pub struct Pair {
     pub i: usize,
     pub j: usize,
 }
 
-#[derive(Drop)]
+// An enum of its own, and no Option of a pair: 01 names a verdict enum.
+#[derive(Clone, Copy, Debug, PartialEq, Eq)]
 pub enum Verdict {
     Same,
     Differs(Pair),
@@ -25,7 +28,7 @@ pub enum Verdict {
 fn odd(goals: u32, p: u32, q: u32) -> u32
     ensures { result ≡ S.meet goals (S.union (S.without p q) (S.without q p)) }
 {
-    goals & ((p ^ (p & q)) | (q ^ (q & p)))
+    goals.meet(p.without(q).union(q.without(p)))
 }
 
 // One row of each order a turn: the goals whose rows differ, of these the first, and the first goal that is in just one of its two rows.
@@ -33,19 +36,21 @@ pub fn compare(a: &[u32; Graph::MAX], b: &[u32; Graph::MAX], n: usize) -> Verdic
     requires { n ≤ S.goal_limit }
     ensures { result ≡ said (first_differ n (ahead a.now) (ahead b.now)) }
 {
-    let goals = sets::below32(n);
+    let goals = u32::below(n);
     let mut uneven: u32 = 0;
+    // By index: two arrays are read, up to n, and the index is the goal.
     for k in 0..n {
         if odd(goals, a[k], b[k]) != 0 {
-            uneven = uneven | Graph::single(k + 1);
+            uneven |= u32::single(k);
         }
     }
     if uneven == 0 {
         return Verdict::Same;
     }
-    let row = sets::first32(uneven);
-    let goal = sets::first32(odd(goals, a[row], b[row]));
-    let i = row + 1;
-    let j = goal + 1;
-    Verdict::Differs(Pair { i, j })
+    let row = uneven.first();
+    let goal = odd(goals, a[row], b[row]).first();
+    Verdict::Differs(Pair {
+        i: row + 1,
+        j: goal + 1,
+    })
 }

@@ -15,24 +15,20 @@ module _ (r x i : ℕ) (hr : r < 256 ^ i) (hx : x < 256) where
   step_lt = rw add-one (omega arith)
 
 module _ (b : List ℕ) (at : ℕ) where
-  pub number-zero : 0 ≡ number b at 0
+  pub number_zero : 0 ≡ number b at 0
   unfolding number
-  number-zero = refl
+  number_zero = refl
 
   pub number_more : (k : ℕ) → number b at (k + 1) ≡ number b at k * 256 + byte b (at + k)
   unfolding number
   number_more k = rw add-one
 
-  pub number-two : number b at 2 ≡ byte b at * 256 + byte b (at + 1)
+  pub number_two : number b at 2 ≡ byte b at * 256 + byte b (at + 1)
   unfolding number
-  number-two = let e : at + 0 ≡ at = omega arith in rw e (omega arith)
+  number_two = let e : at + 0 ≡ at = omega arith in rw e (omega arith)
 
-  -- a number of eight bytes, from the bytes as they were read
-  pub number_eight : (x₀ x₁ x₂ x₃ x₄ x₅ x₆ x₇ : ℕ) → x₀ ≡ byte b at → x₁ ≡ byte b (at + 1) → x₂ ≡ byte b (at + 2) → x₃ ≡ byte b (at + 3)
-      → x₄ ≡ byte b (at + 4) → x₅ ≡ byte b (at + 5) → x₆ ≡ byte b (at + 6) → x₇ ≡ byte b (at + 7)
-      → ((x₀ * 0x100000000000000 + x₁ * 0x1000000000000) + (x₂ * 0x10000000000 + x₃ * 0x100000000))
-      + ((x₄ * 0x1000000 + x₅ * 0x10000) + (x₆ * 0x100 + x₇ * 0x1))
-      ≡ number b at 8
+  pub number_eight : number b at 8
+      ≡ byte b at * 0x100000000000000 + byte b (at + 1) * 0x1000000000000 + byte b (at + 2) * 0x10000000000 + byte b (at + 3) * 0x100000000
+      + byte b (at + 4) * 0x1000000 + byte b (at + 5) * 0x10000 + byte b (at + 6) * 0x100 + byte b (at + 7)
   unfolding number
-  number_eight x₀ x₁ x₂ x₃ x₄ x₅ x₆ x₇ e₀ e₁ e₂ e₃ e₄ e₅ e₆ e₇ =
-      let e : at + 0 ≡ at = omega arith in rw (e₀, e₁, e₂, e₃, e₄, e₅, e₆, e₇, e) (omega arith)
+  number_eight = let e : at + 0 ≡ at = omega arith in rw e (omega arith)

@@ -13,17 +13,17 @@ use Rattle.record_fields.specs.Facts.{ground_place, ticks_place, ground_of, tick
 module _ (b : List ℕ) where
   -- ---- the place of the length byte
 
-  pub length-between : (at : ℕ) → (at + 8 ≤ length_at b at) × (length_at b at ≤ at + 18)
+  pub length_between : (at : ℕ) → (at + 8 ≤ length_at b at) × (length_at b at ≤ at + 18)
   unfolding length_at
-  length-between at = go (own_facts b)
+  length_between at = go (own_facts b)
     where
       go : (own : Bool) → (at + 8 ≤ at + cond own 18 8) × (at + cond own 18 8 ≤ at + 18)
       go true = (omega arith, omega arith)
       go false = (omega arith, omega arith)
 
-  pub length-own : (at : ℕ) → own_facts b ≡ true → length_at b at ≡ at + 18
+  pub length_own : (at : ℕ) → own_facts b ≡ true → length_at b at ≡ at + 18
   unfolding length_at
-  length-own at w = ap (λ (own : Bool). at + cond own 18 8) w
+  length_own at w = ap (λ (own : Bool). at + cond own 18 8) w
 
   -- it moves with the goal
   pub length_moves : (at d : ℕ) → length_at b (at + d) ≡ length_at b at + d
@@ -33,17 +33,9 @@ module _ (b : List ℕ) where
   -- ---- by the version
 
   module _ (at : ℕ) where
-    pub ground-own : own_facts b ≡ true → set b (ground_place at) ≡ ground_of b at
-    unfolding ground_of
-    ground-own w = sym (ap (λ (own : Bool). cond own (set b (ground_place at)) (ground_set b)) w)
-
     pub ground_plain : own_facts b ≡ false → ground_set b ≡ ground_of b at
     unfolding ground_of
     ground_plain w = sym (ap (λ (own : Bool). cond own (set b (ground_place at)) (ground_set b)) w)
-
-    pub ticks-own : own_facts b ≡ true → number b (ticks_place at) 2 ≡ ticks_of b at
-    unfolding ticks_of
-    ticks-own w = sym (ap (λ (own : Bool). cond own (number b (ticks_place at) 2) 1) w)
 
     pub ticks_plain : own_facts b ≡ false → 1 ≡ ticks_of b at
     unfolding ticks_of
@@ -61,17 +53,17 @@ module _ (b : List ℕ) where
 
   -- ---- goal after goal
 
-  pub ground-zero : ground_set b ≡ ground_before b 0
+  pub ground_zero : ground_set b ≡ ground_before b 0
   unfolding ground_before
-  ground-zero = refl
+  ground_zero = refl
 
   pub ground_more : (g at : ℕ) → at ≡ place_after b g → ground_of b at ≡ ground_before b (g + 1)
   unfolding ground_before
   ground_more g at e = rw (add-one, e)
 
-  pub met-zero : head_set b ≡ met_before b 0
+  pub met_zero : head_set b ≡ met_before b 0
   unfolding met_before
-  met-zero = refl
+  met_zero = refl
 
   pub met_more : (g at m s : ℕ) → at ≡ place_after b g → m ≡ met_before b g → s ≡ set b at → union m s ≡ met_before b (g + 1)
   unfolding met_before

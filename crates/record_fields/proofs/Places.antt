@@ -6,9 +6,9 @@ use native.Mathlib.Numerals.{add-one}
 use Rattle.record_fields.specs.Fields.{header_size, place_after, goal_end}
 
 module _ (b : List ℕ) where
-  pub place-zero : header_size ≡ place_after b 0
+  pub place_zero : header_size ≡ place_after b 0
   unfolding place_after
-  place-zero = refl
+  place_zero = refl
 
   pub place_more : (g : ℕ) → place_after b (g + 1) ≡ goal_end b (place_after b g)
   unfolding place_after

@@ -1,16 +1,18 @@
 -- The first bad byte of a text, as a loop looks for it.
 use mathlib.Core.Path.{◌≡◌, refl, ap, ◌∙◌}
-use mathlib.Core.Logic.{⊎_elim}
 use mathlib.Core.Bool.{Bool, true, false, ◌&&◌, cond}
 use mathlib.Core.List.{List}
-use Prim.Native.Nat.{ℕ, zero, suc, ◌+◌, ◌-◌, ◌<◌}
-use native.Mathlib.Nat.{eq-or-lt_of_le, le_of_suc-le-suc, not-suc-le-zero, le_step, lt-suc_self}
+use Prim.Native.Nat.{ℕ, suc, ◌+◌, ◌-◌, ◌<◌}
 use native.Mathlib.Numerals.{add-one}
 use native.Mathlib.Omega.{arith}
 use lib.Dec.{eqb}
 use borrow.Author.Tests.{eqb-true, eq-eqb}
+use lib.ListN.{get_or, take, drop}
+use lib.Seq.{get_or-take, get_or-drop}
 use Rattle.record_fields.specs.Fields.{byte}
-use Rattle.logic.proofs.Bools.{iff, and_l, and_r, and_i}
+use Rattle.logic.specs.Quantifiers.{every}
+use Rattle.logic.proofs.Quantifiers.{every_out, every_in}
+use Rattle.logic.proofs.Bools.{iff}
 use Rattle.record_rules.specs.Reading.{is_text_byte, first_bad}
 use Rattle.record_rules.proofs.Text.{text_good, good_text}
 use Rattle.record_goals.specs.Text.{clean}
@@ -33,28 +35,23 @@ module _ (b : List ℕ) where
 
   -- ---- a text has no bad byte exactly if it is clean
 
-  pub clean-zero : (from : ℕ) → true ≡ clean b from 0
-  unfolding clean
-  clean-zero from = refl
+  pub clean_zero : (from : ℕ) → true ≡ clean b from 0
+  unfolding clean every
+  clean_zero from = refl
 
   pub clean_more : (from k : ℕ) → clean b from (k + 1) ≡ clean b from k && is_text_byte (byte b (from + k))
-  unfolding clean
+  unfolding clean every
   clean_more from k = rw add-one
 
-  clean_out : (from k : ℕ) → clean b from k ≡ true → (i : ℕ) → i < k → is_text_byte (byte b (from + i)) ≡ true
-  unfolding clean
-  clean_out from zero e i h = absurd (not-suc-le-zero h)
-  clean_out from (suc k) e i h =
-      ⊎_elim (λ q. ap (λ (x : ℕ). is_text_byte (byte b (from + x))) q ∙ and_r (clean b from k) (is_text_byte (byte b (from + k))) e)
-      (λ l. clean_out from k (and_l (clean b from k) (is_text_byte (byte b (from + k))) e) i l) (eq-or-lt_of_le (le_of_suc-le-suc h))
-
-  clean_in : (from k : ℕ) → ((i : ℕ) → i < k → is_text_byte (byte b (from + i)) ≡ true) → clean b from k ≡ true
-  unfolding clean
-  clean_in from zero h = refl
-  clean_in from (suc k) h =
-      and_i (clean b from k) (is_text_byte (byte b (from + k))) (clean_in from k (λ i l. h i (le_step l))) (h k (lt-suc_self k))
+  -- byte i of the part that is gone through
+  pub clean_turn : (from k i : ℕ) (ok t : Bool) → i < from + k - from → ok ≡ clean b from i
+      → t ≡ is_text_byte (get_or (take (from + k - from) (drop from b)) i 0) → ok && t ≡ clean b from (i + 1)
+  clean_turn from k i ok t h eo et =
+      let e = et ∙ ap is_text_byte (get_or-take (from + k - from) (drop from b) i 0 h ∙ get_or-drop from b i 0) in cc (clean_more from i)
 
   pub clean_test : (from k : ℕ) → clean b from k ≡ eqb (first_bad b from k) (from + k)
+  unfolding clean
   clean_test from k =
-      iff (clean b from k) (eqb (first_bad b from k) (from + k)) (λ e. eq-eqb _ _ (good_text b k from (clean_out from k e)))
-      (λ e. clean_in from k (text_good b k from (eqb-true _ _ e)))
+      let good = λ (i : ℕ). is_text_byte (byte b (from + i)) in
+      iff (every k good) (eqb (first_bad b from k) (from + k)) (λ e. eq-eqb _ _ (good_text b k from (every_out k good e)))
+      (λ e. every_in k good (text_good b k from (eqb-true _ _ e)))

@@ -1,2 +1,1 @@
 pub mod PairTurns
-pub mod LastStep

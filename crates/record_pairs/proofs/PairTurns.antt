@@ -1,19 +1,20 @@
 -- One pair after the other, as a loop takes them.
+use Rattle.std.specs.Prelude.{Ok, Err, is_ok}
 use mathlib.Core.Path.{◌≡◌, refl, sym, ap, ◌∙◌}
 use mathlib.Core.Bool.{Bool, true, false, ◌&&◌}
 use mathlib.Core.List.{List}
-use Prim.Native.Nat.{ℕ, zero, suc, ◌+◌, ◌*◌, ◌≤◌, ◌<◌}
+use Prim.Native.Nat.{ℕ, zero, suc, ◌+◌, ◌*◌, ◌<◌}
 use native.Mathlib.Numerals.{add-one}
 use native.Mathlib.Omega.{arith}
 use lib.Dec.{ltb, leb}
 use lib.ListN.{length}
-use borrow.Author.Tests.{lt-ltb, ltb-true, le-leb, lt-leb}
+use borrow.Author.Tests.{lt-ltb, ltb-true}
 use Rattle.logic.proofs.Bools.{and_l}
 use Rattle.record_fields.specs.Fields.{byte, number, var_count, pairs_place, pair_at}
-use Rattle.record_fields.proofs.Digits.{number-two}
-use Rattle.record_rules.specs.declared.Reading.TheVariants.{Fine, Refused}
-use Rattle.record_rules.specs.Reading.{◌must◌else◌place◌, pair, pairs, ordered, ascends}
-use Rattle.record_rules.specs.Fine.{fine}
+use Rattle.record_fields.proofs.Digits.{number_two}
+use Rattle.record_rules.specs.declared.Refusal.{Refusal}
+use Rattle.record_rules.proofs.Must.{must_err, must_ok}
+use Rattle.record_rules.specs.Reading.{Reading, ◌must◌else◌place◌, pair, pairs, ordered, ascends}
 use Rattle.record_rules.proofs.Fine.{pairs_next, pairs_stop}
 use Rattle.record_pairs.specs.Order.{pair_fine}
 
@@ -23,13 +24,13 @@ module _ (b : List ℕ) where
   last zero = 0
   last (suc k) = number b (pair_at b k) 2
 
-  pub last-zero : 0 ≡ last 0
+  pub last_zero : 0 ≡ last 0
   unfolding last
-  last-zero = refl
+  last_zero = refl
 
   last_more : (k : ℕ) → last (k + 1) ≡ byte b (pair_at b k) * 256 + byte b (pair_at b k + 1)
   unfolding last
-  last_more k = rw add-one (number-two b (pair_at b k))
+  last_more k = rw add-one (number_two b (pair_at b k))
 
   pub last_turn : (from low high k : ℕ) → from ≡ pairs_place b → low ≡ byte b (from + 2 * k) → high ≡ byte b (from + 2 * k + 1) → low * 256 + high ≡ last (k + 1)
   last_turn from low high k ef el eh = cc (last_more k)
@@ -50,34 +51,31 @@ module _ (b : List ℕ) where
       let l : low < high = ltb-true low high (and_l (ltb low high) (ltb high (var_count b)) e) in
       lt-ltb 0 (low * 256 + high) (omega arith))
   in_turn (suc k) =
-      ap (pair_fine (byte b (pair_at b (suc k))) (byte b (pair_at b (suc k) + 1)) (var_count b) (number b (pair_at b k) 2)) (sym (number-two b (pair_at b (suc k))))
+      ap (pair_fine (byte b (pair_at b (suc k))) (byte b (pair_at b (suc k) + 1)) (var_count b) (number b (pair_at b k) 2)) (sym (number_two b (pair_at b (suc k))))
 
   -- ---- the loop goes on, or stops with a refusal
 
-  -- pair k, of which it is known whether it is whole and whether it is in order
-  turn : (k : ℕ) (w q : Bool) → leb (pair_at b k + 2) (length b) ≡ w → ordered b (pair_at b k) && ascends b k ≡ q
-      → pair b k Fine ≡ (Fine must w else 7 place length b must q else 10 place pair_at b k)
-  unfolding pair
-  turn k w q ew eq = rw (ew, eq)
+  module _ (from k : ℕ) (ef : from ≡ pairs_place b) (h : pairs b k (Ok tt) ≡ Ok tt) where
+    -- whether pair k is whole
+    abbrev pub Whole : Reading
+    Whole = Ok tt must leb (from + 2 * k + 2) (length b) else 7 place length b
 
-  pub short : (from k p : ℕ) → from ≡ pairs_place b → k < p → pairs b k Fine ≡ Fine → length b < from + 2 * k + 2
-      → Refused (record { number = 7; place = length b }) ≡ pairs b p Fine
-  unfolding fine ◌must◌else◌place◌
-  short from k p ef l h s =
-      let t = turn k false _ (lt-leb (pair_at b k + 2) (length b) (omega arith)) refl in
-      sym t ∙ pairs_stop b k p l h (ap fine t)
+    turn : pair b k (Ok tt) ≡ (Whole must ordered b (pair_at b k) && ascends b k else 10 place (from + 2 * k))
+    unfolding pair
+    turn = rw ef
 
-  module _ (from v low high before k : ℕ) (ef : from ≡ pairs_place b) (ev : v ≡ var_count b) (el : low ≡ byte b (from + 2 * k)) (eh : high ≡ byte b (from + 2 * k + 1))
-      (eb : before ≡ last k) (whole : from + 2 * k + 2 ≤ length b) (h : pairs b k Fine ≡ Fine) where
-    whole_turn : (q : Bool) → pair_fine low high v before (low * 256 + high) ≡ q → pair b k Fine ≡ (Fine must q else 10 place (from + 2 * k))
-    unfolding ◌must◌else◌place◌
-    whole_turn q t = let e : ordered b (pair_at b k) && ascends b k ≡ q = cc (in_turn k) in
-        turn k true q (le-leb (pair_at b k + 2) (length b) (omega arith)) e ∙ ap (λ (n : ℕ). Fine must q else 10 place (n + 2 * k)) (sym ef)
+    pub short : (p : ℕ) (r : Refusal) → k < p → Whole ≡ Err r → Err r ≡ pairs b p (Ok tt)
+    short p r l e = let t = turn ∙ must_err Whole _ 10 (from + 2 * k) r e in sym t ∙ pairs_stop b k p l h (ap is_ok t)
 
-    pub go : pair_fine low high v before (low * 256 + high) ≡ true → pairs b (k + 1) Fine ≡ Fine
-    unfolding ◌must◌else◌place◌
-    go t = pairs_next b k h ∙ whole_turn true t
+    module _ (v low high before key : ℕ) (ev : v ≡ var_count b) (el : low ≡ byte b (from + 2 * k)) (eh : high ≡ byte b (from + 2 * k + 1)) (ek : key ≡ low * 256 + high)
+        (eb : before ≡ last k) (w : Whole ≡ Ok tt) (q : Bool) (eq : q ≡ pair_fine low high v before key) where
+      whole_turn : pair b k (Ok tt) ≡ (Ok tt must q else 10 place (from + 2 * k))
+      whole_turn =
+          let z : q ≡ ordered b (pair_at b k) && ascends b k = cc (in_turn k) in
+          turn ∙ must_ok Whole _ 10 (from + 2 * k) w ∙ ap (λ (t : Bool). Ok tt must t else 10 place (from + 2 * k)) (sym z)
 
-    pub stop : (p : ℕ) → k < p → pair_fine low high v before (low * 256 + high) ≡ false → Refused (record { number = 10; place = from + 2 * k }) ≡ pairs b p Fine
-    unfolding fine ◌must◌else◌place◌
-    stop p l t = let e = whole_turn false t in sym e ∙ pairs_stop b k p l h (ap fine e)
+      pub go : (Ok tt must q else 10 place (from + 2 * k)) ≡ Ok tt → pairs b (k + 1) (Ok tt) ≡ Ok tt
+      go t = pairs_next b k h ∙ whole_turn ∙ t
+
+      pub stop : (p : ℕ) (r : Refusal) → k < p → (Ok tt must q else 10 place (from + 2 * k)) ≡ Err r → Err r ≡ pairs b p (Ok tt)
+      stop p r l e = let t = whole_turn ∙ e in sym t ∙ pairs_stop b k p l h (ap is_ok t)

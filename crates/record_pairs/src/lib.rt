@@ -1,59 +1,55 @@
 // Checks the pairs of a record and its end.
 #![tactic(auto)]
 
-ghost use Rattle.std.specs.Prelude.{◌≡◌, ◌<◌, ◌^◌};
+ghost use Rattle.std.specs.Prelude.{◌≡◌, ◌<◌, ◌^◌, ◌+◌, ◌*◌};
 ghost use Rattle.record_fields.specs.Fields as F;
 ghost use Rattle.record_rules.specs.Reading as R;
-ghost use Rattle.record_rules.specs.declared.Reading.TheVariants.{Fine};
 ghost use Rattle.record_pairs.specs.Order as O;
 
-use record_rules::{Reading, Refusal};
+use record_rules::{Refusal, ensure};
 
 // Whether a pair is lower then higher, below v, and its key above that of the pair before it.
-pub fn pair_fine(low: u32, high: u32, v: u32, last: u32, key: u32) -> bool
+pub fn pair_fine(low: u32, high: u32, v: usize, last: u32, key: u32) -> bool
     ensures { result ≡ O.pair_fine low high v last key }
 {
-    (low < high) & (high < v) & (last < key)
+    (low < high) & ((high as usize) < v) & (last < key)
 }
 
 // Checks p pairs from `from` on, one after the other, up to the first of which something is refused.
-fn pairs(b: &[u8], from: usize, v: u32, p: usize) -> Reading
+#[tactic(auto, using(record_rules::proofs::Fine::pairs_start, crate::proofs::PairTurns::last_zero))]
+fn pairs(b: &[u8], from: usize, v: usize, p: usize) -> Result<(), Refusal>
     requires { (from < 2 ^ 32) × (p < 256) × (v ≡ F.var_count b.now) × (from ≡ F.pairs_place b.now) }
-    ensures { result ≡ R.pairs b.now p Fine }
+    ensures { result ≡ R.pairs b.now p (Ok tt) }
 {
     let size = b.len();
-    let mut last: u32 = 0;
-    let mut k: usize = 0;
-    while k < p {
+    let mut last = 0;
+    for k in 0..p {
         let at = from + 2 * k;
-        if size < at + 2 {
-            return Reading::Refused(Refusal {
-                number: 7,
-                place: size,
-            });
-        }
-        let low = record_fields::small(b[at]);
-        let high = record_fields::small(b[at + 1]);
-        let key = low * 256 + high;
-        if pair_fine(low, high, v, last, key) {
-            last = key;
-            k += 1;
-        } else {
-            return Reading::Refused(Refusal {
-                number: 10,
-                place: at,
-            });
-        }
+        ensure(at + 2 <= size, 7, size)?;
+        let low = b[at];
+        let high = b[at + 1];
+        let key = u16::from_be_bytes([low, high]);
+        let fine = pair_fine(
+            u32::from(low),
+            u32::from(high),
+            v,
+            u32::from(last),
+            u32::from(key),
+        );
+        ensure(fine, 10, at)?;
+        last = key;
     }
-    Reading::Fine
+    Ok(())
 }
 
 // Checks the pairs from `from` on, and that nothing follows them.
-pub fn ending(b: &[u8], from: usize, v: u32) -> Reading
+#[tactic(auto, using(record_rules::proofs::Must::must_err, record_rules::proofs::Must::must_ok), unfolding(record_rules::specs::Reading::ending, record_rules::specs::Reading::end))]
+pub fn ending(b: &[u8], from: usize, v: usize) -> Result<(), Refusal>
     requires { (from < 2 ^ 32) × (v ≡ F.var_count b.now) × (from ≡ F.pairs_place b.now) }
-    ensures { result ≡ R.ending b.now Fine }
+    ensures { result ≡ R.ending b.now (Ok tt) }
 {
     let p = record_fields::pair_count(b);
     let end = from + 2 * p;
-    record_rules::also(pairs(b, from, v, p), end == b.len(), 11, end)
+    pairs(b, from, v, p)?;
+    ensure(end == b.len(), 11, end)
 }

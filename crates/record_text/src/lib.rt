@@ -2,22 +2,18 @@
 #![tactic(auto)]
 
 ghost use Rattle.std.specs.Prelude.{◌≡◌, ◌&&◌, leb};
+ghost use Rattle.record_rules.specs.Outcome.{outcome};
 ghost use Rattle.record_text.specs.Texts as T;
 ghost use Rattle.record_text.specs.Part.{PartAt};
 
-use record_rules::{Reading, Refusal};
+use record_fields::Layout;
+use record_rules::{Refusal, ensure};
 
 // Where a goal's text stands in the record.
-#[derive(Drop)]
+#[derive(Clone, Copy)]
 pub struct Span {
     pub place: usize,
     pub size: usize,
-}
-
-#[derive(Drop)]
-pub enum TextAnswer {
-    At(Span),
-    NoText(Refusal),
 }
 
 // Whether g is the number of one of n goals: from 1 to n. It is the test behind 14, open to callers that have a goal count.
@@ -28,27 +24,20 @@ pub fn inside(g: usize, n: usize) -> bool
 }
 
 // Where the text of a goal stands, or why there is none.
-pub fn find(bytes: &[u8], goal: u32) -> TextAnswer
-    ensures { T.text_outcome result ≡ T.goal_text bytes.now goal }
+#[tactic(auto, using(record_rules::proofs::Outcomes::read_err, record_rules::proofs::Outcomes::read_ok, record_rules::proofs::Outcomes::only_err, record_rules::proofs::Outcomes::only_ok), unfolding(crate::specs::Texts::goal_text))]
+pub fn find(bytes: &[u8], goal: u32) -> Result<Span, Refusal>
+    ensures { outcome result ≡ T.goal_text bytes.now goal }
 {
-    match record::read(bytes) {
-        Reading::Refused(r) => TextAnswer::NoText(r),
-        Reading::Fine => {
-            let g = goal as usize;
-            let n = record_fields::goal_count(bytes);
-            if inside(g, n) {
-                let at = record_fields::goal_place(bytes, g);
-                let own = record_fields::own_facts(bytes);
-                let place = record_fields::text_at(bytes, at, own);
-                let size = record_fields::text_length_at(bytes, at, own);
-                return TextAnswer::At(Span { place, size });
-            }
-            TextAnswer::NoText(Refusal {
-                number: 14,
-                place: 0,
-            })
-        }
-    }
+    record::read(bytes)?;
+    let g = goal as usize;
+    let n = record_fields::goal_count(bytes);
+    ensure(inside(g, n), 14, 0)?;
+    let layout = Layout::of(bytes);
+    let at = layout.goal_place(g);
+    Ok(Span {
+        place: layout.text_at(at),
+        size: layout.text_length_at(at),
+    })
 }
 
 // The text of a goal, as the part of the lent record that holds it; with any refusal the empty part at the record's start.
@@ -56,11 +45,11 @@ pub fn part(bytes: &[u8], goal: u32) -> &[u8]
     ensures { PartAt bytes.entry (T.text_part bytes.now goal).place (T.text_part bytes.now goal).size result }
 {
     match find(bytes, goal) {
-        TextAnswer::At(s) => {
+        Ok(s) => {
             let a = s.place;
             let e = a + s.size;
             &bytes[a..e]
         }
-        TextAnswer::NoText(_) => &bytes[0..0],
+        Err(_) => &bytes[0..0],
     }
 }

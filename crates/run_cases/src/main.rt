@@ -3,32 +3,13 @@
 
 ghost use Rattle.std.specs.Prelude.{◌≤◌, length, IfOk};
 
-use annotator::{CheckAnswer, ReadAnswer};
-use form_first_n::Four;
 use graph::Graph;
 use order_compare::Verdict;
-use record_rules::{Reading, Refusal};
-use record_text::TextAnswer;
 use std::io::{Read, Write};
-use std::{fs, io};
+use std::{fmt, fs, io};
 
 // How many cases are run after the first.
 const MOST: usize = 100000;
-
-fn least(a: usize, b: usize) -> usize
-    ensures { result ≤ b }
-{
-    if a < b { a } else { b }
-}
-
-fn say_refusal<W: Write>(out: &mut W, r: Refusal) -> io::Result<()> {
-    writeln!(out, "refused {} {}", r.number, r.place)
-}
-
-// Refusal 13, whose place is 0.
-fn say_four<W: Write>(out: &mut W, q: Four) -> io::Result<()> {
-    writeln!(out, "refused 13 0 {} {} {} {}", q.a, q.b, q.c, q.d)
-}
 
 // The bytes in hexadecimal.
 fn say_hex<W: Write>(out: &mut W, bytes: &[u8]) -> io::Result<()> {
@@ -40,7 +21,7 @@ fn say_hex<W: Write>(out: &mut W, bytes: &[u8]) -> io::Result<()> {
 
 // The bytes in hexadecimal, `-` where there are none.
 fn say_bytes<W: Write>(out: &mut W, bytes: &[u8]) -> io::Result<()> {
-    if bytes.len() == 0 {
+    if bytes.is_empty() {
         write!(out, "-")?;
     }
     say_hex(out, bytes)
@@ -55,16 +36,15 @@ fn say_text<W: Write>(out: &mut W, bytes: &[u8]) -> io::Result<()> {
 
 fn run_read<W: Write>(out: &mut W, bytes: &[u8]) -> io::Result<()> {
     match annotator::read(bytes) {
-        ReadAnswer::Accepted(_) => writeln!(out, "ok"),
-        ReadAnswer::Refused(r) => say_refusal(out, r),
+        Ok(_) => writeln!(out, "ok"),
+        Err(r) => writeln!(out, "{r}"),
     }
 }
 
 fn say_graph<W: Write>(out: &mut W, g: Graph) -> io::Result<()> {
-    let n = least(g.n, Graph::MAX);
+    let n = g.n.min(Graph::MAX);
     write!(out, "ok {n}")?;
-    let rows = g.rows;
-    for row in &rows[..n] {
+    for row in &g.rows[..n] {
         write!(out, " {row:08x}")?;
     }
     writeln!(out)
@@ -72,98 +52,70 @@ fn say_graph<W: Write>(out: &mut W, g: Graph) -> io::Result<()> {
 
 fn run_order<W: Write>(out: &mut W, bytes: &[u8]) -> io::Result<()> {
     let answer = annotator::order(bytes);
-    let reading = answer.reading;
-    match reading {
-        ReadAnswer::Accepted(_) => {
-            let g = answer.graph;
-            say_graph(out, g)
-        }
-        ReadAnswer::Refused(r) => say_refusal(out, r),
+    match answer.reading {
+        Ok(_) => say_graph(out, answer.graph),
+        Err(r) => writeln!(out, "{r}"),
     }
 }
 
 fn run_passes<W: Write>(out: &mut W, bytes: &[u8]) -> io::Result<()> {
     let answer = annotator::order(bytes);
-    let reading = answer.reading;
-    match reading {
-        ReadAnswer::Accepted(_) => writeln!(out, "ok {}", answer.passes),
-        ReadAnswer::Refused(r) => say_refusal(out, r),
+    match answer.reading {
+        Ok(_) => writeln!(out, "ok {}", answer.passes),
+        Err(r) => writeln!(out, "{r}"),
     }
 }
 
 // The first k bytes of a buffer, or nothing where it has fewer.
 fn say_front<W: Write>(out: &mut W, room: &[u8], k: usize) -> io::Result<()> {
-    if k <= room.len() {
-        say_text(out, &room[..k])?;
-    }
-    Ok(())
-}
-
-fn run_mel<W: Write>(out: &mut W, bytes: &[u8], room: &mut [u8]) -> io::Result<()> {
-    match annotator::mel(bytes, room) {
-        mel::MelAnswer::Done(k) => say_front(out, room, k),
-        mel::MelAnswer::Refused(r) => say_refusal(out, r),
-    }
-}
-
-fn run_form<W: Write>(out: &mut W, bytes: &[u8], room: &mut [u8]) -> io::Result<()> {
-    match annotator::form(bytes, room) {
-        form::FormAnswer::Done(k) => say_front(out, room, k),
-        form::FormAnswer::NoForm(q) => say_four(out, q),
-        form::FormAnswer::Refused(r) => say_refusal(out, r),
+    match room.get(..k) {
+        Some(front) => say_text(out, front),
+        None => Ok(()),
     }
 }
 
 fn run_length<W: Write>(out: &mut W, bytes: &[u8]) -> io::Result<()> {
     match annotator::form_length(bytes) {
-        form::FormAnswer::Done(k) => writeln!(out, "ok {k}"),
-        form::FormAnswer::NoForm(q) => say_four(out, q),
-        form::FormAnswer::Refused(r) => say_refusal(out, r),
+        Ok(k) => writeln!(out, "ok {k}"),
+        Err(e) => writeln!(out, "{e}"),
     }
 }
 
 fn run_text<W: Write>(out: &mut W, bytes: &[u8], goal: u32) -> io::Result<()> {
     match annotator::find_text(bytes, goal) {
-        TextAnswer::At(s) => {
+        Ok(s) => {
             let part = annotator::goal_text(bytes, goal);
             let len = part.len();
             write!(out, "ok {} {len} ", s.place)?;
             say_bytes(out, part)?;
             writeln!(out)
         }
-        TextAnswer::NoText(r) => say_refusal(out, r),
+        Err(r) => writeln!(out, "{r}"),
     }
 }
 
 fn run_check<W: Write>(out: &mut W, bytes: &[u8], text: &[u8]) -> io::Result<()> {
     match annotator::check(bytes, text) {
-        CheckAnswer::Verdict(v) => match v {
-            Verdict::Same => writeln!(out, "same"),
-            Verdict::Differs(p) => writeln!(out, "differs {} {}", p.i, p.j),
-        },
-        CheckAnswer::Rejected(r) => say_refusal(out, r),
+        Ok(Verdict::Same) => writeln!(out, "same"),
+        Ok(Verdict::Differs(p)) => writeln!(out, "differs {} {}", p.i, p.j),
+        Err(r) => writeln!(out, "{r}"),
     }
 }
 
 // The waits of a record before closure.
 fn run_waits<W: Write>(out: &mut W, bytes: &[u8]) -> io::Result<()> {
-    match record::read(bytes) {
-        Reading::Fine => {
-            let c = clause::decode(bytes);
-            say_graph(out, order::waits_of(c.n, &c.sets, &c.grounds, &c.listed))
-        }
-        Reading::Refused(r) => say_refusal(out, r),
+    match record::accept(bytes) {
+        Ok(given) => say_graph(out, order::waits_of(&clause::decode(given))),
+        Err(r) => writeln!(out, "{r}"),
     }
 }
 
 // A part of an array, where it lies inside.
 fn say_part<W: Write>(out: &mut W, bytes: &[u8], from: usize, end: usize) -> io::Result<()> {
-    if from <= end {
-        if end <= bytes.len() {
-            say_hex(out, &bytes[from..end])?;
-        }
+    match bytes.get(from..end) {
+        Some(part) => say_hex(out, part),
+        None => Ok(()),
     }
-    Ok(())
 }
 
 // The sheet, in its three parts.
@@ -178,58 +130,52 @@ fn run_sheet<W: Write>(out: &mut W, bytes: &[u8]) -> io::Result<()> {
     writeln!(out)
 }
 
-// A case that lends a buffer.
-fn run_writer<W: Write>(out: &mut W, line: &[u8], bytes: &[u8], room: usize) -> io::Result<()> {
+// Runs an operation that writes into a buffer of so many bytes.
+fn run_writer<W: Write, E: fmt::Display + Drop, F: FnOnce(&[u8], &mut [u8]) -> Result<usize, E>>(
+    out: &mut W,
+    bytes: &[u8],
+    room: usize,
+    run: F,
+) -> io::Result<()>
+    requires { F.IsAlwaysCallable run }
+{
     let mut space = [0u8; 196608];
-    let n = least(room, 196608);
+    let n = room.min(space.len());
     let lent = &mut space[..n];
-    match case_lines::field(line, 0) {
-        b"mel" => run_mel(out, bytes, lent),
-        _ => run_form(out, bytes, lent),
+    match run(bytes, lent) {
+        Ok(k) => say_front(out, lent, k),
+        Err(e) => writeln!(out, "{e}"),
     }
 }
 
-// A case with a second text.
+// A case with a second text. Writer, line and record are handed on as they are, and as no struct: each function takes one of them apart.
 fn run_second<W: Write>(out: &mut W, line: &[u8], bytes: &[u8]) -> io::Result<()> {
     let mut text = [0u8; 1024];
-    let n = least(
-        case_lines::bytes(case_lines::field(line, 3), &mut text),
-        1024,
-    );
+    let n = case_lines::bytes(case_lines::field(line, 3), &mut text).min(1024);
     run_check(out, bytes, &text[..n])
-}
-
-// A case of the record alone, or with a number behind it.
-fn run_first<W: Write>(out: &mut W, line: &[u8], bytes: &[u8], number: u32) -> io::Result<()> {
-    match case_lines::field(line, 0) {
-        b"read" => run_read(out, bytes),
-        b"waits" => run_waits(out, bytes),
-        b"order" => run_order(out, bytes),
-        b"passes" => run_passes(out, bytes),
-        b"length" => run_length(out, bytes),
-        b"text" => run_text(out, bytes, number),
-        b"sheet" => run_sheet(out, bytes),
-        _ => Ok(()),
-    }
 }
 
 // Runs the operation of a case on its record.
 fn run_operation<W: Write>(out: &mut W, line: &[u8], bytes: &[u8]) -> io::Result<()> {
     let number = case_lines::number(case_lines::field(line, 3));
     match case_lines::field(line, 0) {
+        b"read" => run_read(out, bytes),
+        b"waits" => run_waits(out, bytes),
+        b"order" => run_order(out, bytes),
+        b"passes" => run_passes(out, bytes),
+        b"length" => run_length(out, bytes),
+        b"text" => run_text(out, bytes, number as u32),
+        b"sheet" => run_sheet(out, bytes),
         b"check" => run_second(out, line, bytes),
-        b"mel" => run_writer(out, line, bytes, number as usize),
-        b"form" => run_writer(out, line, bytes, number as usize),
-        _ => run_first(out, line, bytes, number as u32),
+        b"mel" => run_writer(out, bytes, number as usize, annotator::mel),
+        b"form" => run_writer(out, bytes, number as usize, annotator::form),
+        _ => Ok(()),
     }
 }
 
 fn run_case<W: Write>(out: &mut W, line: &[u8]) -> io::Result<()> {
     let mut bytes = [0u8; sheet_text::INPUT];
-    let n = least(
-        case_lines::bytes(case_lines::field(line, 2), &mut bytes),
-        sheet_text::INPUT,
-    );
+    let n = case_lines::bytes(case_lines::field(line, 2), &mut bytes).min(sheet_text::INPUT);
     run_operation(out, line, &bytes[..n])
 }
 

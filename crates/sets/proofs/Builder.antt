@@ -5,6 +5,7 @@ use mathlib.Core.Bool.{Bool, true, false, not, ◌&&◌, ◌||◌, cond, or-true
 use Prim.Native.Nat.{ℕ, zero, suc, ◌^◌, ◌<◌}
 use native.Mathlib.Nat.{eq-or-lt_of_le, le_of_suc-le-suc, le_step}
 use native.Mathlib.Omega.{arith}
+use lib.Bits.{bit_xor, xor_zero_l, xor_zero_r, xor_self, xor_assoc}
 use lib.Dec.{eqb, ltb}
 use lib.Pow.{pow-lt}
 use borrow.Author.Tests.{lt-ltb, le-ltb, ltb-true, eq-eqb, eqb-true}
@@ -20,6 +21,26 @@ single_lt w i h = pow-lt h
 -- a set whose members are all below w
 pub members_lt : (w m : ℕ) → ((i : ℕ) → has m i ≡ true → i < w) → m < 2 ^ w
 members_lt w m h = below_of w m (λ i l. is_false (has m i) (λ e. absurd (omega (arith, h i e))))
+
+-- what a set has in common with one that it is inside of is the set itself
+pub meet_self : (a b : ℕ) → eqb (meet a b) a ≡ subset a b
+unfolding subset
+meet_self a b = iff (eqb (meet a b) a) (subset a b) there back
+  where
+    there : eqb (meet a b) a ≡ true → subset a b ≡ true
+    there e = has-subset a b (λ i h. and_r (has a i) (has b i) (sym (has_meet a b i) ∙ ap (λ (x : ℕ). has x i) (eqb-true (meet a b) a e) ∙ h))
+
+    back : subset a b ≡ true → eqb (meet a b) a ≡ true
+    back e =
+        eq-eqb (meet a b) a
+        (sym (xor_zero_l (meet a b)) ∙ ap (λ (x : ℕ). bit_xor x (meet a b)) (sym (xor_self a)) ∙ xor_assoc a a (meet a b)
+        ∙ ap (bit_xor a) (eqb-true (without a b) 0 e) ∙ xor_zero_r a)
+
+-- one number is inside of a set that has it
+pub single_in : (m i : ℕ) → subset (single i) m ≡ has m i
+single_in m i =
+    iff (subset (single i) m) (has m i) (λ e. subset-has (single i) m e i (has-single i i ∙ eq-eqb i i refl))
+    (λ e. has-subset (single i) m (λ j h. ap (has m) (sym (eqb-true i j (sym (has-single i j) ∙ h))) ∙ e))
 
 -- inside the set of the numbers below v
 pub subset-below : (v m : ℕ) → subset m (below v) ≡ within v m

@@ -1,7 +1,7 @@
 -- The members of a set as an ascending list, and their count.
-use mathlib.Core.Path.{◌≡◌, refl, sym, ap, ap₂, ◌∙◌}
+use mathlib.Core.Path.{◌≡◌, refl, sym, ap, ap₂, ◌∙◌, subst}
 use mathlib.Core.Logic.{◌⊎◌, inl, inr, ⊎_elim}
-use mathlib.Core.Bool.{Bool, true, false, not, ◌&&◌, cond, true≢false, false≢true, and-true, and-false}
+use mathlib.Core.Bool.{Bool, true, false, not, ◌&&◌, ◌||◌, cond, true≢false, false≢true, and-true, and-false}
 use mathlib.Core.List.{List, [], ◌∷◌}
 use Prim.Native.Nat.{ℕ, zero, suc, ◌+◌, ◌/◌, ◌%◌, ◌^◌, ◌≤◌, ◌<◌, zero-le}
 use native.Mathlib.Nat.{eq-or-lt_of_le, zero-add, mod-lt, lt_of_not-le, le_of_suc-le-suc, not-suc-le-zero, zero-lt-suc, le_refl}
@@ -11,8 +11,8 @@ use lib.ListN.{length}
 use lib.Dec.{eqb}
 use lib.Arith.{lt-one}
 use lib.Count.{ones, ones_step}
-use borrow.Author.Tests.{eq-eqb, ne_eqb}
-use Rattle.logic.proofs.Bools.{by_test, is_false, cond_mono}
+use borrow.Author.Tests.{eq-eqb, ne_eqb, eqb-true}
+use Rattle.logic.proofs.Bools.{by_test, iff, is_false, or_elim, or_l, or_r, cond_mono}
 use Rattle.sets.specs.Sets.{has, without, single, first, count, members_from, members}
 use Rattle.sets.proofs.Membership.{has-zero, has-suc, has-without, has-single, has_empty, none_empty, member_below, first_least, first_member}
 
@@ -121,6 +121,52 @@ members-none w = from-none w 0
 -- a loop that takes the first member off comes to an end
 pub fewer : (w m : ℕ) → m < 2 ^ w → (m ≡ 0 → ⊥) → length (members w (without m (single (first w m)))) < length (members w m)
 fewer w m h n = omega (arith, ap length (members_step w m h n))
+
+-- ---- a turn of a loop over the members: i is the first of the set m, and n has the others
+
+-- the head of the list is below what follows it
+head_below : (k s m i : ℕ) (l : List ℕ) → members_from k s m ≡ i ∷ l → (j : ℕ) → In j l → i < j
+unfolding members_from
+head_below zero s m i l = λ e j h. absurd (cc)
+head_below (suc k) s m i l = go (λ e. head_below k (suc s) m i l e) (has m s) refl
+  where
+    go : (members_from k (suc s) m ≡ i ∷ l → (j : ℕ) → In j l → i < j) → (p : Bool) → has m s ≡ p → cond p (s ∷ members_from k (suc s) m) (members_from k (suc s) m) ≡ i ∷ l → (j : ℕ) → In j l → i < j
+    go f true q e j h =
+        let same : s ≡ i = cc in
+        let rest : members_from k (suc s) m ≡ l = cc in
+        let a = in_members k (suc s) m j (subst (In j) (sym rest) h) in
+        omega arith
+    go f false q e j h = f e j h
+
+module _ (w m i n : ℕ) (e : members w m ≡ i ∷ members w n) where
+  pub step_in : i < w
+  step_in = let a = in_members w 0 m i (subst (In i) (sym e) (inl refl)) in omega arith
+
+  pub step_has : (j : ℕ) → j < w → has m j ≡ (eqb i j || has n j)
+  step_has j l = iff (has m j) (eqb i j || has n j) there back
+    where
+      there : has m j ≡ true → (eqb i j || has n j) ≡ true
+      there h =
+          ⊎_elim (λ (q : j ≡ i). or_l (eqb i j) (has n j) (eq-eqb i j (sym q)))
+          (λ (q : In j (members w n)). or_r (eqb i j) (has n j) (in_members w 0 n j q).2)
+          (subst (In j) e (members_in w 0 m j zero-le (omega arith) h))
+
+      back : (eqb i j || has n j) ≡ true → has m j ≡ true
+      back h =
+          or_elim (eqb i j) (has n j) h
+          (λ q. (in_members w 0 m j (subst (In j) (sym e) (inl (sym (eqb-true i j q))))).2)
+          (λ q. (in_members w 0 m j (subst (In j) (sym e) (inr (members_in w 0 n j zero-le (omega arith) q)))).2)
+
+  pub step_gone : has n i ≡ false
+  step_gone =
+      is_false (has n i)
+      (λ q.
+      let l : i < i = head_below w 0 m i (members w n) e i (members_in w 0 n i zero-le (let b = step_in in omega arith) q) in
+      absurd (omega arith))
+
+-- at the end of the loop
+pub step_none : (w m : ℕ) → members w m ≡ [] → (j : ℕ) → j < w → has m j ≡ false
+step_none w m e j l = is_false (has m j) (λ h. subst (In j) e (members_in w 0 m j zero-le (omega arith) h))
 
 -- ---- a proper subset has a smaller count
 

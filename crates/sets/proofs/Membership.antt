@@ -2,14 +2,14 @@
 use mathlib.Core.Path.{◌≡◌, refl, sym, ap, ◌∙◌}
 use Prim.Native.Nat.compare
 use Prim.Native.Nat.{ℕ, zero, suc, ◌-◌, ◌*◌, ◌/◌, ◌%◌, ◌^◌, ◌≤◌, ◌<◌, zero-le, suc-le-suc}
-use native.Mathlib.Nat.{one-mul, mod-eq_of_lt, lt_of_not-le, pow-suc, mul_comm, div-div-eq-div-mul, div-one, mod-lt, zero-div, div-eq_of_lt, le_of_suc-le-suc, not-suc-le-zero, zero-lt-suc, le-div_iff_mul-le, lt_of_lt_of_le, add-zero, zero-min}
+use native.Mathlib.Nat.{lt_of_not-le, pow-suc, mul_comm, div-div-eq-div-mul, div-one, mod-lt, zero-div, div-eq_of_lt, le_of_suc-le-suc, not-suc-le-zero, zero-lt-suc, le-div_iff_mul-le, lt_of_lt_of_le, add-zero, zero-min}
 use native.Mathlib.Omega.{arith}
 use mathlib.Core.Bool.{Bool, true, false, not, ◌&&◌, ◌||◌, xor, true≢false, false≢true}
 use native.Mathlib.Decide.{dec_lt}
 use lib.Dec.{eqb, ltb, is_le, compare_is_eq}
 use lib.Arith.{bin_ind}
 use lib.Bits.{bit_and, bit_or, bit_xor, and_shr, or_shr, xor_shr, and_mod, or_mod, xor_mod, and_zero_r, and_self, and_step, xor_step, xor_zero_r}
-use lib.Pow.{pow_pos, pow-lt, pow_mono}
+use lib.Pow.{pow_pos, pow_mono}
 use lib.Count.{count_trailing_zeros, under}
 use borrow.Author.Tests.{lt-ltb, le-ltb, ltb-true, eq-eqb, ne_eqb, eqb-true, eqb-false}
 use Rattle.logic.proofs.Bools.{and-not, and-not-i}
@@ -198,10 +198,10 @@ even_without a b e =
     let o : bit_and (a / 2) b * 2 % 2 ≡ 0 = omega arith in
     ap (bit_xor a) m ∙ xor_step a (bit_and (a / 2) b * 2) ∙ rw (n, o, e) (add-zero _)
 
-pub drop-first : (w a : ℕ) → 0 < a → a < 2 ^ w → bit_and a (a - 1) ≡ without a (single (first w a))
+pub first_off : (w a : ℕ) → 0 < a → a < 2 ^ w → bit_and a (a - 1) ≡ without a (single (first w a))
 unfolding count_trailing_zeros
-drop-first zero a h l = absurd (omega arith)
-drop-first (suc w) a h l = go (a % 2) refl (λ k. drop-first w (a / 2) k (omega arith))
+first_off zero a h l = absurd (omega arith)
+first_off (suc w) a h l = go (a % 2) refl (λ k. first_off w (a / 2) k (omega arith))
   where
     go : (d : ℕ) → a % 2 ≡ d → (0 < a / 2 → bit_and (a / 2) (a / 2 - 1) ≡ without (a / 2) (single (count_trailing_zeros w (a / 2))))
         → bit_and a (a - 1) ≡ without a (single (under d (count_trailing_zeros w (a / 2))))
@@ -217,9 +217,6 @@ drop-first (suc w) a h l = go (a % 2) refl (λ k. drop-first w (a / 2) k (omega 
         and_step a (a - 1) ∙ rw (half, low, one, and_self (a / 2)) (sym (ap (bit_xor a) m ∙ xor_step a 1 ∙ rw (one, xor_zero_r (a / 2))))
 
 -- ---- the machine's forms, at a word of w bits
-
-pub shl_single : (w v : ℕ) → v < w → (1 * 2 ^ v) % 2 ^ w ≡ single v
-shl_single w v h = ap (λ (x : ℕ). x % 2 ^ w) (one-mul (2 ^ v)) ∙ mod-eq_of_lt (pow-lt h)
 
 le_of_not_lt : {a b : ℕ} → (a < b → ⊥) → b ≤ a
 le_of_not_lt h = le_of_suc-le-suc (lt_of_not-le (λ l. h l))

@@ -5,6 +5,29 @@
 use std::rt::Files;
 use std::{fs, io};
 
+const RECORDS: [&str; 20] = [
+    "refused-1.lfj",
+    "refused-2.lfj",
+    "refused-3.lfj",
+    "refused-4.lfj",
+    "refused-5.lfj",
+    "refused-6.lfj",
+    "refused-7.lfj",
+    "refused-8.lfj",
+    "refused-9.lfj",
+    "refused-10.lfj",
+    "refused-11.lfj",
+    "refused-18.lfj",
+    "refused-19.lfj",
+    "no-form.lfj",
+    "longest.lfj",
+    "longest-and-one.lfj",
+    "full.lfj",
+    "beyond.lfj",
+    "mel-at-limit.lfj",
+    "mel-past-limit.lfj",
+];
+
 // Prints the sheet of the record in the file of this name.
 fn print_sheet(rt: &(impl Files + Print), name: &str) -> io::Result<()> {
     let mut input = [0u8; sheet_text::INPUT];
@@ -15,24 +38,8 @@ fn print_sheet(rt: &(impl Files + Print), name: &str) -> io::Result<()> {
 }
 
 fn main(rt: HostRuntime) -> io::Result<()> {
-    print_sheet(&rt, "refused-1.lfj")?;
-    print_sheet(&rt, "refused-2.lfj")?;
-    print_sheet(&rt, "refused-3.lfj")?;
-    print_sheet(&rt, "refused-4.lfj")?;
-    print_sheet(&rt, "refused-5.lfj")?;
-    print_sheet(&rt, "refused-6.lfj")?;
-    print_sheet(&rt, "refused-7.lfj")?;
-    print_sheet(&rt, "refused-8.lfj")?;
-    print_sheet(&rt, "refused-9.lfj")?;
-    print_sheet(&rt, "refused-10.lfj")?;
-    print_sheet(&rt, "refused-11.lfj")?;
-    print_sheet(&rt, "refused-18.lfj")?;
-    print_sheet(&rt, "refused-19.lfj")?;
-    print_sheet(&rt, "no-form.lfj")?;
-    print_sheet(&rt, "longest.lfj")?;
-    print_sheet(&rt, "longest-and-one.lfj")?;
-    print_sheet(&rt, "full.lfj")?;
-    print_sheet(&rt, "beyond.lfj")?;
-    print_sheet(&rt, "mel-at-limit.lfj")?;
-    print_sheet(&rt, "mel-past-limit.lfj")
+    for name in RECORDS {
+        print_sheet(&rt, name)?;
+    }
+    Ok(())
 }

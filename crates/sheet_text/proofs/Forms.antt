@@ -23,8 +23,9 @@ use Rattle.expression.specs.Text.{form_limit, text}
 use Rattle.expression.proofs.Search.{found_first}
 use Rattle.form_first_n.specs.declared.Four.{Four as Goals}
 use Rattle.form_first_n.specs.FirstN.{four}
-use Rattle.form.specs.declared.FormAnswer.{FormAnswer}
-use Rattle.form.specs.declared.FormAnswer.TheVariants as W
+use Rattle.std.specs.Prelude.{Result, Ok, Err}
+use Rattle.form.specs.declared.FormError.{FormError}
+use Rattle.form.specs.declared.FormError.TheVariants as W
 use Rattle.form.specs.Form.{first_four, form_text, shown, form_answer, form_buffer, outcome, goals}
 use Rattle.form.proofs.Outcomes.{shown-fine, thirteen-none}
 use Rattle.form.proofs.Theorems.{settles, form_short}
@@ -42,7 +43,7 @@ module _ (b : List ℕ) where
   text-line t e f = sym (ap₂ form_line e f)
 
   -- "No form" is answered with the four goals of the line,
-  pub none-shown : {r : FormAnswer} (q : Goals) → goals r ≡ shown b → r ≡ W.NoForm q → none_line (four q) ≡ form_line (shown b) (form_text b)
+  pub none-shown : {r : Result ℕ FormError} (q : Goals) → goals r ≡ shown b → r ≡ Err (W.NoForm q) → none_line (four q) ≡ form_line (shown b) (form_text b)
   none-shown q g f = four-line (four q) (sym g ∙ ap goals f)
 
   module _ (buf : List ℕ) (room : length buf ≡ form_limit) where
@@ -51,8 +52,8 @@ module _ (b : List ℕ) where
     fitting t e = same_answer buf e ∙ sym (size_fits t buf refl (omega (arith, form_short b t e, room)))
 
     -- and a length with its text.
-    pub text-shown : {new : List ℕ} {r : FormAnswer} {n : ℕ} → (outcome r ≡ form_answer b buf) × ((goals r ≡ shown b) × (new ≡ form_buffer b buf))
-        → r ≡ W.Done n → (form_word ++ take n new ≡ form_line (shown b) (form_text b)) × (length (take n new) ≤ form_limit) × (n ≤ length new)
+    pub text-shown : {new : List ℕ} {r : Result ℕ FormError} {n : ℕ} → (outcome r ≡ form_answer b buf) × ((goals r ≡ shown b) × (new ≡ form_buffer b buf))
+        → r ≡ Ok n → (form_word ++ take n new ≡ form_line (shown b) (form_text b)) × (length (take n new) ≤ form_limit) × (n ≤ length new)
     unfolding stored
     text-shown {new} {r} {n} (h, (g, k)) f = by (form_text b) refl (ap outcome (sym f) ∙ h)
       where
@@ -78,8 +79,8 @@ module _ (b : List ℕ) where
     first-shown = shown-fine b (well_formed_fine b w)
 
     -- With room for every form it is not refused.
-    pub not-refused : (buf : List ℕ) → length buf ≡ form_limit → {r : FormAnswer} {x : Refusal} → outcome r ≡ form_answer b buf → goals r ≡ shown b
-        → r ≡ W.Refused x → ⊥
+    pub not-refused : (buf : List ℕ) → length buf ≡ form_limit → {r : Result ℕ FormError} {x : Refusal} → outcome r ≡ form_answer b buf → goals r ≡ shown b
+        → r ≡ Err (W.Refused x) → ⊥
     not-refused buf room h g f =
         told_apart (ap outcome (sym f) ∙ h ∙ fitting buf room _ (has-text (sym first-shown ∙ sym g ∙ ap goals f)))
 

@@ -2,4 +2,3 @@ pub mod Lines
 pub mod Forms
 pub mod Mel
 pub mod Sheet
-mod InPlace

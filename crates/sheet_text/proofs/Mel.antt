@@ -9,12 +9,11 @@ use lib.ListN.{length, take, drop, length-append}
 use lib.Seq.{take-append_seam}
 use borrow.Author.Tests.{le-leb, lt-leb, leb-true, leb-false}
 use Rattle.record_rules.specs.declared.Refusal.{Refusal}
-use Rattle.record_rules.specs.Outcome.{refused, accepted}
+use Rattle.record_rules.specs.Outcome.{refused, accepted, outcome}
 use Rattle.record_rules.proofs.Outcomes.{told_apart, one_value, one_refusal}
 use Rattle.record.specs.WellFormed.{WellFormed}
-use Rattle.mel.specs.declared.MelAnswer.{MelAnswer}
-use Rattle.mel.specs.declared.MelAnswer.TheVariants as W
-use Rattle.mel.specs.Annotation.{mel, mel_answer, mel_buffer, outcome}
+use Rattle.std.specs.Prelude.{Result, Ok, Err}
+use Rattle.mel.specs.Annotation.{mel, mel_answer, mel_buffer}
 use Rattle.mel.proofs.Theorems.{length_named, length_enough}
 use Rattle.sheet_text.specs.Sheet.{refused_text, mel_room}
 use Rattle.sheet_text.specs.Parts.{mel_shown, mel_rest}
@@ -22,7 +21,7 @@ use Rattle.sheet_text.specs.Parts.{mel_shown, mel_rest}
 module _ (b : List ℕ) (w : WellFormed b) where
   module _ (buf : List ℕ) (room : length buf ≡ mel_room) where
     -- a length is answered where the text fits,
-    pub mel_done : {r : MelAnswer} (n : ℕ) → outcome r ≡ mel_answer b buf → r ≡ W.Done n → (length (mel b) ≤ mel_room) × (n ≡ length (mel b))
+    pub mel_done : {r : Result ℕ Refusal} (n : ℕ) → outcome r ≡ mel_answer b buf → r ≡ Ok n → (length (mel b) ≤ mel_room) × (n ≡ length (mel b))
     mel_done n h f = go (leb (length (mel b)) (length buf)) refl (ap outcome (sym f) ∙ h)
       where
         go : (t : Bool) → leb (length (mel b)) (length buf) ≡ t → accepted n ≡ mel_answer b buf → (length (mel b) ≤ mel_room) × (n ≡ length (mel b))
@@ -30,7 +29,7 @@ module _ (b : List ℕ) (w : WellFormed b) where
         go false e k = absurd (told_apart (sym (k ∙ (length_named b buf w (leb-false (length (mel b)) (length buf) e)).0)))
 
     -- and else 12 with the text's length.
-    pub mel-refused : {r : MelAnswer} (x : Refusal) → outcome r ≡ mel_answer b buf → r ≡ W.Refused x
+    pub mel-refused : {r : Result ℕ Refusal} (x : Refusal) → outcome r ≡ mel_answer b buf → r ≡ Err x
         → (mel_room < length (mel b)) × (x.number ≡ 12) × (x.place ≡ length (mel b))
     mel-refused x h f = go (leb (length (mel b)) (length buf)) refl (ap outcome (sym f) ∙ h)
       where

@@ -1,4 +1,5 @@
 -- The whole sheet in its three parts, and its length without the MEL text.
+use Rattle.std.specs.Prelude.{Ok, Err}
 use mathlib.Core.Path.{◌≡◌, sym, ap, ap₂, ◌∙◌}
 use mathlib.Core.Bool.{Bool, true, false, cond}
 use mathlib.Core.List.{List, [], ◌∷◌, ◌++◌, append_assoc, append-nil}
@@ -11,9 +12,7 @@ use Rattle.buffer.specs.Text.{Wrote}
 use Rattle.buffer.proofs.Decimal.{decimal-length}
 use Rattle.buffer.proofs.Writing.{stands}
 use Rattle.record_fields.specs.Fields.{goal_count}
-use Rattle.record_rules.specs.declared.Reading.{Reading}
-use Rattle.record_rules.specs.declared.Reading.TheVariants.{Fine, Refused}
-use Rattle.record_rules.specs.Reading.{reading}
+use Rattle.record_rules.specs.Reading.{reading, Reading}
 use Rattle.record_rules.specs.declared.Refusal.{Refusal}
 use Rattle.record.specs.WellFormed.{WellFormed}
 use Rattle.form.specs.Form.{form_text, shown}
@@ -49,11 +48,11 @@ module _ (b : List ℕ) where
         w.goals_to,
       )
 
-  pub lines-fine : reading b ≡ Fine → accepted_top b ++ mel_rest (mel b) ≡ lines b
+  pub lines-fine : reading b ≡ Ok tt → accepted_top b ++ mel_rest (mel b) ≡ lines b
   unfolding lines top_of rest_of
   lines-fine e = sym (ap (λ (s : Reading). top_of s b ++ rest_of s b) e)
 
-  pub lines-refused : (r : Refusal) → reading b ≡ Refused r → line (refused_text r.number r.place) ≡ lines b
+  pub lines-refused : (r : Refusal) → reading b ≡ Err r → line (refused_text r.number r.place) ≡ lines b
   unfolding lines top_of rest_of
   lines-refused r e = sym (append-nil (line (refused_text r.number r.place))) ∙ sym (ap (λ (s : Reading). top_of s b ++ rest_of s b) e)
 
@@ -63,17 +62,17 @@ module _ (b : List ℕ) where
   parts_are s h r e f g =
       λ i. record { top = (e ∙ sym (ap (λ (u : Reading). length (top_of u b)) h)) i; mel = (f ∙ sym (ap (λ (u : Reading). length (shown_of u b)) h)) i; end = g i }
 
-  pub parts-fine : reading b ≡ Fine → (r : Parts) → r.top ≡ length (accepted_top b) → r.mel ≡ length (mel_shown (mel b)) → r.end ≡ length (lines b) → r ≡ parts_of b
+  pub parts-fine : reading b ≡ Ok tt → (r : Parts) → r.top ≡ length (accepted_top b) → r.mel ≡ length (mel_shown (mel b)) → r.end ≡ length (lines b) → r ≡ parts_of b
   unfolding top_of shown_of
-  parts-fine = parts_are Fine
+  parts-fine = parts_are (Ok tt)
 
-  pub parts-refused : (x : Refusal) → reading b ≡ Refused x → (r : Parts) → r.top ≡ length (line (refused_text x.number x.place)) → r.mel ≡ 0
+  pub parts-refused : (x : Refusal) → reading b ≡ Err x → (r : Parts) → r.top ≡ length (line (refused_text x.number x.place)) → r.mel ≡ 0
       → r.end ≡ length (lines b) → r ≡ parts_of b
   unfolding top_of shown_of
-  parts-refused x = parts_are (Refused x)
+  parts-refused x = parts_are (Err x)
 
   -- the three parts are the sheet
-  pub sheet-fine : reading b ≡ Fine → accepted_top b ++ mel_shown (mel b) ++ mel_rest (mel b) ≡ sheet b
+  pub sheet-fine : reading b ≡ Ok tt → accepted_top b ++ mel_shown (mel b) ++ mel_rest (mel b) ≡ sheet b
   unfolding sheet sheet_with mel_line mel_shown mel_rest accepted_top count_line
   sheet-fine e = go (leb (length (mel b)) mel_room) ∙ sym (ap (λ (s : Reading). sheet_with (goal_text b) refused_text s b) e)
     where
@@ -92,7 +91,7 @@ module _ (b : List ℕ) where
           ap (λ (u : List ℕ). u ++ (r ++ (10 ∷ []))) (append-nil (x ++ mel_word)) ∙ append_assoc x mel_word (r ++ (10 ∷ []))
           ∙ ap (λ (u : List ℕ). x ++ u) (sym (append_assoc mel_word r (10 ∷ [])))
 
-  pub sheet-refused : (r : Refusal) → reading b ≡ Refused r → line (refused_text r.number r.place) ++ [] ++ [] ≡ sheet b
+  pub sheet-refused : (r : Refusal) → reading b ≡ Err r → line (refused_text r.number r.place) ++ [] ++ [] ≡ sheet b
   unfolding sheet sheet_with
   sheet-refused r e =
       append-nil (line (refused_text r.number r.place) ++ []) ∙ append-nil (line (refused_text r.number r.place))

@@ -1,10 +1,8 @@
 -- The sheet in three parts, for a caller that keeps the MEL text in an array of its own: the lines up to the MEL text, the MEL text, and what follows it.
-use Rattle.std.specs.Prelude.{◌≡◌, cond, List, [], ◌∷◌, ◌++◌, ℕ, ◌-◌, ◌≤◌, leb, length, take, drop}
+use Rattle.std.specs.Prelude.{◌≡◌, cond, List, [], ◌∷◌, ◌++◌, ℕ, ◌-◌, ◌≤◌, leb, length, take, drop, Ok, Err}
 use Rattle.buffer.specs.Decimal.{decimal}
 use Rattle.record_fields.specs.Fields.{goal_count}
-use Rattle.record_rules.specs.declared.Reading.{Reading}
-use Rattle.record_rules.specs.declared.Reading.TheVariants.{Fine, Refused}
-use Rattle.record_rules.specs.Reading.{reading}
+use Rattle.record_rules.specs.Reading.{reading, Reading}
 use Rattle.form.specs.Form.{form_text, shown}
 use Rattle.mel.specs.Annotation.{mel}
 use Rattle.sheet_text.specs.Sheet.{goals_word, mel_word, line, refused_text, goal_lines, form_line, mel_room, goal_text, sheet}
@@ -29,12 +27,12 @@ mel_rest t = line (cond (leb (length t) mel_room) [] (refused_text 12 (length t)
 
 -- the lines before the MEL text, and after it
 unfoldable pub top_of : Reading → List ℕ → List ℕ
-top_of Fine b = accepted_top b
-top_of (Refused r) b = line (refused_text r.number r.place)
+top_of (Ok _) b = accepted_top b
+top_of (Err r) b = line (refused_text r.number r.place)
 
 unfoldable pub rest_of : Reading → List ℕ → List ℕ
-rest_of Fine b = mel_rest (mel b)
-rest_of (Refused r) b = []
+rest_of (Ok _) b = mel_rest (mel b)
+rest_of (Err r) b = []
 
 -- all that stands in the array of lines, and a room that holds it
 unfoldable pub lines : List ℕ → List ℕ
@@ -45,8 +43,8 @@ line_room = 2048
 
 -- what is shown of the MEL text
 unfoldable pub shown_of : Reading → List ℕ → List ℕ
-shown_of Fine b = mel_shown (mel b)
-shown_of (Refused r) b = []
+shown_of (Ok _) b = mel_shown (mel b)
+shown_of (Err r) b = []
 
 -- how long the parts are: the lines end at `end`, and the MEL text stands between those up to `top` and the others
 unfoldable pub parts_of : List ℕ → Parts

@@ -1,11 +1,9 @@
 -- The printed sheet of a record (01, "The printed sheet"), as one definition of the record's bytes.
-use Rattle.std.specs.Prelude.{cond, List, [], ◌∷◌, ◌++◌, ℕ, zero, suc, leb, length, take, drop}
+use Rattle.std.specs.Prelude.{cond, List, [], ◌∷◌, ◌++◌, ℕ, zero, suc, leb, length, take, drop, Ok, Err}
 use Rattle.std.proofs.Math.Option.{Option, none, some}
 use Rattle.buffer.specs.Decimal.{decimal}
 use Rattle.record_fields.specs.Fields.{goal_count, text_place, text_length}
-use Rattle.record_rules.specs.declared.Reading.{Reading}
-use Rattle.record_rules.specs.declared.Reading.TheVariants.{Fine, Refused}
-use Rattle.record_rules.specs.Reading.{reading}
+use Rattle.record_rules.specs.Reading.{reading, Reading}
 use Rattle.record_rules.specs.Outcome.{Outcome, refused, accepted}
 use Rattle.expression.specs.Search.{Four}
 use Rattle.form.specs.Form.{form_text, shown}
@@ -65,8 +63,8 @@ mel_line t = cond (leb (length t) mel_room) (mel_word ++ t) (mel_word ++ refused
 
 -- the sheet of a record of which reading gave s, with the texts shown for its goals and the line of a refusal as arguments
 unfoldable pub sheet_with : (ℕ → List ℕ) → (ℕ → ℕ → List ℕ) → Reading → List ℕ → List ℕ
-sheet_with texts refusal (Refused r) b = line (refusal r.number r.place)
-sheet_with texts refusal Fine b =
+sheet_with texts refusal (Err r) b = line (refusal r.number r.place)
+sheet_with texts refusal (Ok _) b =
     line (goals_word ++ decimal (goal_count b)) ++ goal_lines texts (goal_count b) ++ line (form_line (shown b) (form_text b)) ++ line (mel_line (mel b))
 
 -- the text of goal g in the record

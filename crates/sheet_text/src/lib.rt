@@ -6,15 +6,17 @@ ghost use Rattle.std.specs.Io.{ReadsAtMost};
 ghost use Rattle.std.specs.Io.KnownBytes.{Appends, Consumes, IsAtEnd};
 ghost use Rattle.buffer.specs.Text.{Wrote};
 ghost use Rattle.record_fields.specs.Fields as F;
-ghost use Rattle.record.specs.WellFormed.{WellFormed};
 ghost use Rattle.form_first_n.specs.FirstN.{four};
 ghost use Rattle.form.specs.Form as P;
 ghost use Rattle.mel.specs.Annotation as M;
 ghost use Rattle.sheet_text.specs.Sheet as S;
 ghost use Rattle.sheet_text.specs.Parts as R;
 
+use form::FormError;
 use form_first_n::Four;
-use record_rules::Reading;
+use record::Record;
+use record_fields::Layout;
+use record_rules::Refusal;
 use std::io;
 use std::io::{Read, Write};
 
@@ -27,7 +29,7 @@ pub const MEL_ROOM: usize = 32768;
 // The size of the array for the other lines of its sheet.
 pub const LINES: usize = 2048;
 
-// The sheet in two arrays: lines[..top], then text[..mel], then lines[top..end].
+// The sheet in two arrays: lines[..top], then text[..mel], then lines[top..end]. Places and no slices: `write` answers while both arrays are lent to it, and its clauses name R.parts_of.
 #[derive(Drop)]
 pub struct Parts {
     pub top: usize,
@@ -44,14 +46,16 @@ fn put_spaced(out: &mut [u8], at: usize, n: usize) -> usize
     buffer::put_number(out, o, n)
 }
 
-// Writes `refused`, a number and a place.
-fn put_refused(out: &mut [u8], at: usize, number: usize, place: usize) -> usize
-    requires { at + length (S.refused_text number place) < 2 ^ 63 }
-    ensures { Wrote (S.refused_text number place) at out.old result out.new }
+// Writes the line of a refusal: `refused`, its number and its place.
+fn put_refused(out: &mut [u8], at: usize, r: Refusal) -> usize
+    requires { at + 64 < 2 ^ 63 }
+    ensures wrote { Wrote (S.line (S.refused_text r.number r.place)) at out.old result out.new }
+    ensures upper_bound { result ≤ at + 64 }
 {
     let mut o = buffer::put_bytes(out, at, b"refused ");
-    o = buffer::put_number(out, o, number);
-    put_spaced(out, o, place)
+    o = buffer::put_number(out, o, usize::from(r.number));
+    o = put_spaced(out, o, r.place);
+    buffer::put_byte(out, o, b'\n')
 }
 
 // Writes the line of the number of goals.
@@ -76,22 +80,20 @@ fn put_goal(out: &mut [u8], at: usize, g: usize, shown: &[u8]) -> usize
 }
 
 // Writes the line of each goal, which shows its text.
-fn put_goals(out: &mut [u8], at: usize, bytes: &[u8]) -> usize
-    requires well_formed { WellFormed bytes.now }
-    requires at_bound { at + R.line_room < 2 ^ 63 }
-    ensures { Wrote (S.goal_lines (S.goal_text bytes.now) (F.goal_count bytes.now)) at out.old result out.new }
+fn put_goals(out: &mut [u8], at: usize, given: Record<'_>) -> usize
+    requires { at + R.line_room < 2 ^ 63 }
+    ensures { Wrote (S.goal_lines (S.goal_text given.entry.bytes.now) (F.goal_count given.entry.bytes.now)) at out.old result out.new }
 {
+    let bytes = given.bytes;
     let n = record_fields::goal_count(bytes);
-    let own = record_fields::own_facts(bytes);
+    let layout = Layout::of(bytes);
     let mut o = at;
-    let mut place: usize = record_fields::HEADER;
-    let mut g: usize = 0;
-    while g < n {
-        let start = record_fields::text_at(bytes, place, own);
-        let end = record_fields::goal_end(bytes, place, own);
+    let mut place = record_fields::HEADER;
+    for g in 0..n {
+        let start = layout.text_at(place);
+        let end = layout.goal_end(place);
         o = put_goal(out, o, g + 1, &bytes[start..end]);
         place = end;
-        g += 1;
     }
     o
 }
@@ -109,16 +111,15 @@ fn put_none(out: &mut [u8], at: usize, q: Four) -> usize
 }
 
 // Writes `form` and the text of the form, or that there is none.
-fn put_form(out: &mut [u8], at: usize, bytes: &[u8]) -> usize
-    requires well_formed { WellFormed bytes.now }
-    requires at_bound { at + R.line_room < 2 ^ 63 }
-    ensures { Wrote (S.form_line (P.shown bytes.now) (P.form_text bytes.now)) at out.old result out.new }
+fn put_form(out: &mut [u8], at: usize, given: Record<'_>) -> usize
+    requires { at + R.line_room < 2 ^ 63 }
+    ensures { Wrote (S.form_line (P.shown given.entry.bytes.now) (P.form_text given.entry.bytes.now)) at out.old result out.new }
 {
     let mut space = [0u8; form::LONGEST];
-    match form::write(bytes, &mut space) {
-        form::FormAnswer::Refused(_) => at,
-        form::FormAnswer::NoForm(q) => put_none(out, at, q),
-        form::FormAnswer::Done(n) => {
+    match form::write(given.bytes, &mut space) {
+        Err(FormError::Refused(_)) => at,
+        Err(FormError::NoForm(q)) => put_none(out, at, q),
+        Ok(n) => {
             let o = buffer::put_bytes(out, at, b"form ");
             buffer::put_bytes(out, o, &space[..n])
         }
@@ -126,42 +127,40 @@ fn put_form(out: &mut [u8], at: usize, bytes: &[u8]) -> usize
 }
 
 // Writes the lines of an accepted record up to its MEL text.
-fn put_top(out: &mut [u8], bytes: &[u8]) -> usize
-    requires { WellFormed bytes.now }
-    ensures { Wrote (R.accepted_top bytes.now) 0 out.old result out.new }
+fn put_top(out: &mut [u8], given: Record<'_>) -> usize
+    ensures { Wrote (R.accepted_top given.entry.bytes.now) 0 out.old result out.new }
 {
-    let goals = record_fields::goal_count(bytes);
+    let goals = record_fields::goal_count(given.bytes);
     let mut o = put_count(out, 0, goals);
-    o = put_goals(out, o, bytes);
-    o = put_form(out, o, bytes);
+    o = put_goals(out, o, given);
+    o = put_form(out, o, given);
     buffer::put_bytes(out, o, b"\nmel ")
 }
 
 // Writes the MEL text into `text` and what follows it into `lines`.
-fn put_mel(lines: &mut [u8], top: usize, bytes: &[u8], text: &mut [u8]) -> Parts
-    requires well_formed { WellFormed bytes.now }
+fn put_mel(lines: &mut [u8], top: usize, given: Record<'_>, text: &mut [u8]) -> Parts
     requires text_len { length text.old ≡ S.mel_room }
     requires top_bound { top + R.line_room < 2 ^ 63 }
     ensures top_value { result.top ≡ top }
-    ensures mel_value { result.mel ≡ length (R.mel_shown (M.mel bytes.now)) }
+    ensures mel_value { result.mel ≡ length (R.mel_shown (M.mel given.entry.bytes.now)) }
     ensures end_bound { result.end ≤ top + 64 }
-    ensures wrote { Wrote (R.mel_rest (M.mel bytes.now)) top lines.old result.end lines.new }
-    ensures text_after { text.new ≡ M.mel_buffer bytes.now text.old }
+    ensures wrote { Wrote (R.mel_rest (M.mel given.entry.bytes.now)) top lines.old result.end lines.new }
+    ensures text_after { text.new ≡ M.mel_buffer given.entry.bytes.now text.old }
 {
-    match mel::write(bytes, text) {
-        mel::MelAnswer::Done(n) => {
+    match mel::write(given.bytes, text) {
+        Ok(n) => {
             let end = buffer::put_byte(lines, top, b'\n');
             Parts { top, mel: n, end }
         }
-        mel::MelAnswer::Refused(r) => {
-            let o = put_refused(lines, top, record_fields::size_of(r.number), r.place);
-            let end = buffer::put_byte(lines, o, b'\n');
+        Err(r) => {
+            let end = put_refused(lines, top, r);
             Parts { top, mel: 0, end }
         }
     }
 }
 
-// Writes the sheet of a record: the MEL text into `text`, everything else into `lines`.
+// Writes the sheet of a record: the MEL text into `text`, everything else into `lines`. Slices of these lengths, here
+// and in `run`, and no arrays: an array asks more of a caller who has a slice.
 pub fn write(bytes: &[u8], lines: &mut [u8], text: &mut [u8]) -> Parts
     requires in_bounds { R.line_room ≤ length lines.old }
     requires text_len { length text.old ≡ S.mel_room }
@@ -170,19 +169,18 @@ pub fn write(bytes: &[u8], lines: &mut [u8], text: &mut [u8]) -> Parts
     ensures wrote { Wrote (R.lines bytes.now) 0 lines.old result.end lines.new }
     ensures text_after { text.new ≡ M.mel_buffer bytes.now text.old }
 {
-    match record::read(bytes) {
-        Reading::Refused(r) => {
-            let o = put_refused(lines, 0, record_fields::size_of(r.number), r.place);
-            let end = buffer::put_byte(lines, o, b'\n');
+    match record::accept(bytes) {
+        Err(r) => {
+            let top = put_refused(lines, 0, r);
             Parts {
-                top: end,
+                top,
                 mel: 0,
-                end,
+                end: top,
             }
         }
-        Reading::Fine => {
-            let top = put_top(lines, bytes);
-            put_mel(lines, top, bytes, text)
+        Ok(given) => {
+            let top = put_top(lines, given);
+            put_mel(lines, top, given, text)
         }
     }
 }
@@ -211,23 +209,6 @@ fn print<W: Write>(out: &mut W, bytes: &[u8], text: &mut [u8]) -> io::Result<()>
     put_parts(out, &lines[..top], &text[..mel], &lines[top..end])
 }
 
-// Reads until `buf` is full or the input ends, and answers how many bytes it put at the start of `buf`.
-fn read_full<R: Read>(reader: &mut R, buf: &mut [u8]) -> io::Result<usize>
-    ensures in_bounds { ReadsAtMost result buf.new }
-    ensures taken { IfOk result (λ n. Consumes (R.remaining reader.old) (R.remaining reader.new) (take n buf.new)) }
-    ensures end { IfOk result (λ n. n < length buf.new → IsAtEnd (R.remaining reader.new)) }
-{
-    let mut done = 0;
-    while done < buf.len() {
-        let n = reader.read(&mut buf[done..])?;
-        if n == 0 {
-            return Ok(done);
-        }
-        done += n;
-    }
-    Ok(done)
-}
-
 // Reads a record from `reader` into `input`, until the array is full or the reader ends, and prints its sheet to `out`. Answers the record's length.
 pub fn run<R: Read, W: Write>(
     reader: &mut R,
@@ -244,7 +225,7 @@ pub fn run<R: Read, W: Write>(
     ensures printed { IfOk result (λ n. Appends (W.contents out.old) (W.contents out.new) (S.sheet (take n input.new))) }
     ensures err { OnErr result ((text.new ≡ text.old) ⊎ ((n : ℕ) × (n ≤ length input.new) × (text.new ≡ M.mel_buffer (take n input.new) text.old))) }
 {
-    let n = read_full(reader, input)?;
+    let n = input_bytes::read_full(reader, input)?;
     print(out, &input[..n], text)?;
     Ok(n)
 }

@@ -1,4 +1,5 @@
 -- What settles an answer with little to compute: the waits of a record settle its form, and its annotation's text the call that writes it.
+use Rattle.std.specs.Prelude.{Ok}
 use mathlib.Core.Path.{◌≡◌, sym, ap, ap₂, ◌∙◌}
 use mathlib.Core.Bool.{Bool}
 use mathlib.Core.List.{List, ◌++◌}
@@ -8,7 +9,6 @@ use lib.ListN.{length, drop}
 use Rattle.sets.specs.Sets.{goal_limit}
 use Rattle.graph.specs.Graph.{ahead, rows_of}
 use Rattle.graph.proofs.Rows.{rows_say}
-use Rattle.record_rules.specs.declared.Reading.TheVariants.{Fine}
 use Rattle.record_rules.specs.Reading.{reading}
 use Rattle.record_fields.specs.Fields.{goal_count}
 use Rattle.record.proofs.WellFormed.{fine_well_formed}
@@ -28,7 +28,7 @@ use Rattle.mel.specs.Annotation as M
 use Rattle.mel.proofs.Theorems.{length_enough}
 use Rattle.starred_drafts.specs.Drafts.{annotates, mel_of, room}
 
-module _ (b : List ℕ) (fine : reading b ≡ Fine) where
+module _ (b : List ℕ) (fine : reading b ≡ Ok tt) where
   -- of a record with the waits W
   pub formed : (W : ℕ → ℕ → Bool) → rows_of goal_limit (goal_count b) (waits b) ≡ rows_of goal_limit (goal_count b) W →
       let R = closed W (goal_count b) in

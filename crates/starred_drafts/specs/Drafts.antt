@@ -1,13 +1,12 @@
 -- The starred drafts of 01 ("Draft clauses to hold against it"), one table: what the definitions that the operations' promises cite give, and what the paper says.
 -- `proofs/Theorems.antt` has them equal, and that the records given by waits have these waits.
-use Rattle.std.specs.Prelude.{◌≡◌, Bool, false, ◌&&◌, ◌||◌, cond, List, [], ◌∷◌, ◌++◌, map, ℕ, zero, suc, ◌+◌, ◌/◌, ◌^◌, eqb, length, drop, replicate}
+use Rattle.std.specs.Prelude.{◌≡◌, Bool, false, ◌&&◌, ◌||◌, cond, List, [], ◌∷◌, ◌++◌, map, ℕ, zero, suc, ◌+◌, ◌/◌, ◌^◌, eqb, length, drop, replicate, Ok}
 use Rattle.std.proofs.Math.Option.{Option, none, some}
 use Prim.Native.Char.{code}
 use Prim.Native.String.{String, len, char_at}
 use Rattle.sets.specs.Sets.{goal_limit}
 use Rattle.graph.specs.Graph.{rows_of}
 use Rattle.record_fields.specs.Fields.{goal_count}
-use Rattle.record_rules.specs.declared.Reading.TheVariants.{Fine}
 use Rattle.record_rules.specs.Reading.{reading}
 use Rattle.expression.specs.Form.{up_from}
 use Rattle.order.specs.Order.{waits}
@@ -53,7 +52,7 @@ asked ((a then c) ∷ l) i j = (eqb i a && eqb j c) || asked l i j
 
 -- the record b is accepted, and W are its waits
 pub record Has (b : List ℕ) (W : ℕ → ℕ → Bool) : Type 0 where
-  pub fine : reading b ≡ Fine
+  pub fine : reading b ≡ Ok tt
   pub rows : rows_of goal_limit (goal_count b) (waits b) ≡ rows_of goal_limit (goal_count b) W
 
 -- the variables of goal g: the wait k gives variable k to its two goals

@@ -29,9 +29,11 @@ use Rattle.expression_grammar.specs.Check.{Verdict, same, differs, first_differ,
 use Rattle.expression_grammar.proofs.Theorems.{accepts, refuses, read_text_lem, read_16, read_17}
 use Rattle.expression_grammar.proofs.Goals.{misuse-none}
 use Rattle.expression_grammar.proofs.Differences.{same-order}
-use Rattle.annotator.specs.declared.CheckAnswer.{CheckAnswer}
+use Rattle.record_rules.specs.declared.Refusal.{Refusal}
+use Rattle.order_compare.specs.declared.Verdict as Verdicts
+use Rattle.std.specs.Prelude as P
 use Rattle.annotator.specs.Answers.{check_outcome, check}
-use Rattle.annotator.proofs.Checks.{check-fine}
+use Rattle.annotator.proofs.Checks.{check_fine}
 use Rattle.expression_grammar.specs.Occurrences.{Misused}
 use Rattle.theorems.specs.Check.{Sized, FirstDifference, Case, refused_15, refused_16, refused_17, says_same, says_differs, answer, Applies, CheckSays}
 use Rattle.expression_grammar.proofs.Misuses.{misuse_is}
@@ -113,7 +115,7 @@ module _ (b t : List ℕ) where
 -- ---- T12. For a well-formed record and any text: each answer is given exactly if its case applies; one case applies, and only one.
 pub check_says : (b t : List ℕ) → WellFormed b → CheckSays b t
 check_says b t w =
-    let fine : checked (goal_count b) (O.before b) t ≡ check b t = check-fine b t (sym (well_formed_fine b w)) refl in
+    let fine : checked (goal_count b) (O.before b) t ≡ check b t = check_fine b t (well_formed_fine b w) in
     let (c₀, a₀, e₀) = answered b t in
     record {
       exactly = λ c. (λ h. subst (Applies b t) (answers_differ c₀ c (sym e₀ ∙ fine ∙ h)) a₀, λ a. sym fine ∙ applied b t c a);
@@ -145,7 +147,7 @@ module _ (b t : List ℕ) (w : WellFormed b) where
   check_differs i j = (check_says b t w).exactly (says_differs i j)
 
 -- The operation promises `check_outcome r ≡ check b t` of its answer r: so its answer says the same.
-pub answer_says : (b t : List ℕ) → WellFormed b → (r : CheckAnswer) → check_outcome r ≡ check b t → (c : Case) → (check_outcome r ≡ answer c) ↔ Applies b t c
+pub answer_says : (b t : List ℕ) → WellFormed b → (r : P.Result Verdicts.Verdict Refusal) → check_outcome r ≡ check b t → (c : Case) → (check_outcome r ≡ answer c) ↔ Applies b t c
 answer_says b t w r e c = let x = (check_says b t w).exactly c in (λ h. x.0 (sym e ∙ h), λ a. e ∙ x.1 a)
 
 -- An expression that differs has not the record's order.

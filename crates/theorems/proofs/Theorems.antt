@@ -6,6 +6,7 @@
 --     document 003  published_decides, published_text: figure 1 decides as the operation does, and section 3.2 gives its text
 --     goal text     calls_agree: the part is the one that the other call names
 -- T6 is `demand` of the crate `form`, T10 stands in `mel`: both speak of the operation already.
+use Rattle.std.specs.Prelude.{Result, Ok, Err}
 use mathlib.Core.Path.{◌≡◌, refl, sym, ap, ◌∙◌, subst}
 use mathlib.Core.Bool.{Bool, true}
 use mathlib.Core.List.{List, []}
@@ -20,7 +21,6 @@ use Rattle.graph.specs.Passes.{after, FirstThatAddsNone, pass_limit}
 use Rattle.graph.specs.declared.Graph.{Graph}
 use Rattle.graph.proofs.Rows.{rows_say}
 use Rattle.record_rules.specs.declared.Refusal.{Refusal}
-use Rattle.record_rules.specs.declared.Reading.TheVariants.{Fine, Refused}
 use Rattle.record_fields.specs.Fields.{goal_count}
 use Rattle.record_rules.specs.Reading.{reading}
 use Rattle.record.specs.WellFormed.{WellFormed}
@@ -35,7 +35,7 @@ use Rattle.expression.proofs.Theorems.{has-order_is, form_unique, order_strict}
 use Rattle.order.specs.Order as O
 use Rattle.order.specs.Order.{before}
 use Rattle.order.proofs.Theorems.{before_is, before-order, passes_are, passes-order, passes-one-order, passes_limit}
-use Rattle.record_rules.specs.Outcome.{Outcome, refused, accepted, values}
+use Rattle.record_rules.specs.Outcome.{Outcome, refused, accepted, values, outcome}
 use Rattle.record_rules.proofs.Outcomes.{told_apart, one_value}
 use Rattle.form.specs.Form.{or_thirteen, form_text, form_answer}
 use Rattle.form.specs.Demand.{HasForm}
@@ -49,12 +49,11 @@ use Rattle.published.specs.Figure1.{figure1}
 use Rattle.published.specs.Linear.{udg_expr}
 use Rattle.published.proofs.Theorems.{figure_1_first_n, udg_text}
 use Rattle.record_text.specs.declared.Span.{Span}
-use Rattle.record_text.specs.declared.TextAnswer.{TextAnswer}
-use Rattle.record_text.specs.Texts.{goal_text, text_outcome, no_span, text_part}
+use Rattle.record_text.specs.Texts.{goal_text, no_span, text_part}
 use Rattle.annotator.specs.Answers.{order_graph, order_passes, check}
-use Rattle.annotator.proofs.Answers.{order-fine, passes-fine, passes-refused, passes_counted, passes_none}
+use Rattle.annotator.proofs.Answers.{order_fine, passes_fine, passes_refused}
 use Rattle.record_text.specs.Part.{PartAt}
-use Rattle.annotator.proofs.Checks.{check-fine}
+use Rattle.annotator.proofs.Checks.{check_fine}
 pub use Rattle.theorems.proofs.Check.{check_says, check_15, check_16, check_17, check-same, check_differs, answer_says}
 
 -- a text is accepted only where there is no N
@@ -69,7 +68,7 @@ module _ (b : List ℕ) (w : WellFormed b) where
   abbrev n : ℕ
   n = goal_count b
 
-  fine : reading b ≡ Fine
+  fine : reading b ≡ Ok tt
   fine = well_formed_fine b w
 
   house_form : (f : Expr) → HasForm b f → HouseForm R n f
@@ -83,7 +82,7 @@ module _ (b : List ℕ) (w : WellFormed b) where
       }
 
   checks_as : (t : List ℕ) → checked n R t ≡ check b t
-  checks_as t = check-fine b t (sym fine) refl
+  checks_as t = check_fine b t fine
 
   -- ---- T8, round trip: the check of the text that the form operation writes says "same",
   pub form_says_same : (t : List ℕ) → form_text b ≡ accepted t → check b t ≡ accepted same
@@ -122,7 +121,7 @@ module _ (b : List ℕ) (w : WellFormed b) where
   -- ---- T9: the order operation gives the graph of the record's order, which has i before j exactly if a chain of waits leads from i to j,
   pub order_graph_lem : order_graph b ≡ graph_of n R
   unfolding order_graph O.order
-  order_graph_lem = sym (order-fine b (sym fine) refl refl)
+  order_graph_lem = sym (order_fine b fine refl)
 
   pub order_chains : (i j : ℕ) → Goals n i → Goals n j → (ahead (order_graph b).rows i j ≡ true) ↔ O.Before b i j
   order_chains i j p q =
@@ -132,7 +131,7 @@ module _ (b : List ℕ) (w : WellFormed b) where
 
   -- ---- 02, 5: the number of passes that the order operation gives
   pub order_passes_lem : order_passes b ≡ O.pass_count b
-  order_passes_lem = sym (passes_counted b (passes-fine b (sym fine) refl refl))
+  order_passes_lem = sym (passes_fine b fine refl)
 
   -- "closed in passes, each adding exactly those waits that a chain of two waits standing at its start gives, and end with the first that adds none"
   pub first-pass : FirstThatAddsNone n (O.waits b) (order_passes b)
@@ -170,12 +169,12 @@ module _ (b : List ℕ) (w : WellFormed b) where
       settles b w ∙ thirteen-none (text (form R n)) (figure_none.0 t) ∙ ap accepted (sym (udg_text R n (before-order b) w.goals_from t))
 
 -- of a refused record the number of passes is 0
-pub no_passes : (b : List ℕ) (r : Refusal) → reading b ≡ Refused r → order_passes b ≡ 0
-no_passes b r e = sym (passes_none b (passes-refused b r refl e))
+pub no_passes : (b : List ℕ) (r : Refusal) → reading b ≡ Err r → order_passes b ≡ 0
+no_passes b r e = sym (passes_refused b r e)
 
 -- ---- Goal text: for any bytes and any number the part handed out is the one whose place and length the other call gives.
-pub calls_agree : (s r : Bor (List ℕ)) (g : ℕ) (a : TextAnswer) → text_outcome a ≡ goal_text s.now g
+pub calls_agree : (s r : Bor (List ℕ)) (g : ℕ) (a : Result Span Refusal) → outcome a ≡ goal_text s.now g
     → PartAt s (text_part s.now g).place (text_part s.now g).size r
-    → PartAt s (values no_span (text_outcome a)).value.place (values no_span (text_outcome a)).value.size r
+    → PartAt s (values no_span (outcome a)).value.place (values no_span (outcome a)).value.size r
 unfolding text_part
 calls_agree s r g a e p = subst (λ (o : Outcome Span). PartAt s (values no_span o).value.place (values no_span o).value.size r) (sym e) p

@@ -1,31 +1,20 @@
-use native.Mathlib.Omega.{arith}
-use Rattle.buffer.proofs.Writing.{start, onward, done, left_kept}
-use Rattle.case_lines.proofs.Fields.{bytes_more, bytes-last, bytes-end}
+use Rattle.std.proofs.Common.{◌≡◌, length, arith, length-append, ◌∙◌, ap}
+use Rattle.std.specs.Slice.Iter.{chunks_exact_rest}
+use Rattle.buffer.proofs.Writing.{onward, done}
+use Rattle.case_lines.specs.Line.{bytes_of}
+use Rattle.case_lines.proofs.Fields.{bytes_more, bytes-end}
 use Rattle.case_lines.proofs.bytes.Goals as goal
 
-pub loop-i-init : goal.loop-i-init
-loop-i-init c = (omega arith, omega arith, start _ _ _)
-
-pub shape_of-out-then-i-s : goal.shape_of-out-then-i-s
-shape_of-out-then-i-s c = left_kept c.loop-i.invariant.2
-
-pub returns-then-i-s : goal.returns-then-i-s
-returns-then-i-s c = let a = c.args in let l = c.loop-i in done l.invariant.2 (bytes-last a.s.now l.i c.if-i-s.true)
-
-pub overflow_mul-b : goal.overflow_mul-b
-overflow_mul-b c = omega arith
-
-pub overflow_add-b : goal.overflow_add-b
-overflow_add-b c = omega arith
-
-pub put_byte-o-requires : goal.put_byte-o-requires
-put_byte-o-requires c = omega arith
-
-pub loop-i-preserved : goal.loop-i-preserved
-loop-i-preserved c = let a = c.args in let l = c.loop-i in (omega arith, omega arith, onward l.invariant.2 c.put_byte-o.ensures (rw (c.nibble.ensures.value, c.nibble-in-loop-i.ensures.value) (bytes_more a.s.now l.i (omega arith))))
-
-pub shape_of-out : goal.shape_of-out
-shape_of-out c = left_kept c.loop-i.invariant.2
+pub loop-pair-preserved : goal.loop-pair-preserved
+loop-pair-preserved c =
+    let s = c.in-Some.ensures.steps in
+    let pair = c.in-Some.pair.now in
+    let size : length pair ≡ 2 = omega arith in
+    let more = ap bytes_of s.1.0 ∙ bytes_more pair (chunks_exact_rest c.next.new.self) size in (
+      omega arith,
+      omega (arith, ap length s.1.0, length-append pair (chunks_exact_rest c.next.new.self)),
+      onward c.loop-pair.invariant.2 c.put_byte-o.ensures (rw (c.nibble.ensures.value, c.nibble-in-loop-pair.ensures.value) more),
+    )
 
 pub returns : goal.returns
-returns c = let a = c.args in let l = c.loop-i in done l.invariant.2 (bytes-end a.s.now l.i (omega arith))
+returns c = done c.loop-pair.invariant.2 (bytes-end _ (omega (arith, c.in-None.ensures.steps)))

@@ -1,11 +1,10 @@
-use Prim.Native.Nat.{◌-◌, ◌≤◌}
-use lib.ListN.{length, drop}
+use Rattle.std.proofs.Common.{◌≡◌, ◌≤◌, ◌+◌, length}
+use Rattle.std.specs.Slice.Iter.{chunks_exact_rest, chunks_exact_size}
 use Rattle.buffer.proofs.Writing.{Left}
 use Rattle.case_lines.specs.Line.{bytes_of}
 use Rattle.case_lines.proofs.bytes.Given as goal
 
-abbrev pub invariant-loop-i : goal.invariant-loop-i
-invariant-loop-i l = (l.i ≤ length l.s) × (l.o ≤ l.i) × Left (bytes_of (drop l.i l.s)) (bytes_of l.s) 0 l.initial.out l.o l.out
-
-abbrev pub decreases-loop-i : goal.decreases-loop-i
-decreases-loop-i l = length l.s - l.i
+abbrev pub invariant-loop-pair : goal.invariant-loop-pair
+invariant-loop-pair l =
+    (chunks_exact_size l.pair-iterator ≡ 2) × (l.o + length (chunks_exact_rest l.pair-iterator) ≤ length l.s)
+    × Left (bytes_of (chunks_exact_rest l.pair-iterator)) (bytes_of l.s) 0 l.initial.out l.o l.out

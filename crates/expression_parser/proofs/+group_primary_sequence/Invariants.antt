@@ -14,14 +14,14 @@ decreases-primary l = (length l.text.now - l.at) * 3
 abbrev pub decreases-sequence : goal.decreases-sequence
 decreases-sequence l = (length l.text.now - l.start) * 3 + 2
 
-abbrev pub invariant-group-loop-p : goal.invariant-group-loop-p
-invariant-group-loop-p l = Looped 32 false l.text l.depth l.start l.at l.fn.rows l.set l.extra l.rows
+abbrev pub invariant-group-members : goal.invariant-group-members
+invariant-group-members l = Looped 32 false l.text l.depth l.start l.at l.fn.rows l.set l.extra l.rows
 
-abbrev pub decreases-group-loop-p : goal.decreases-group-loop-p
-decreases-group-loop-p l = length l.text - l.at
+abbrev pub decreases-group-members : goal.decreases-group-members
+decreases-group-members l = length l.text - l.at
 
-abbrev pub invariant-sequence-loop-p : goal.invariant-sequence-loop-p
-invariant-sequence-loop-p l = Looped 32 true l.text l.depth l.start l.at l.fn.rows l.set l.extra l.rows
+abbrev pub invariant-sequence-members : goal.invariant-sequence-members
+invariant-sequence-members l = Looped 32 true l.text l.depth l.start l.at l.fn.rows l.set l.extra l.rows
 
-abbrev pub decreases-sequence-loop-p : goal.decreases-sequence-loop-p
-decreases-sequence-loop-p l = length l.text - l.at
+abbrev pub decreases-sequence-members : goal.decreases-sequence-members
+decreases-sequence-members l = length l.text - l.at

@@ -1,23 +1,18 @@
-use borrow.Author.Rules.{rules}
 use native.Mathlib.Omega.{arith}
-use mathlib.Core.Path.{◌≡◌, ap, ◌∙◌}
-use Prim.Native.Nat.{ℕ}
-use lib.ListN.{get_or}
+use mathlib.Core.Path.{ap₂, ◌∙◌}
+use Prim.Native.Nat.{◌<◌}
+use lib.Seq.{length-take-le}
+use Rattle.std.proofs.lemmas.List.{get_or-take}
 use Rattle.sets.specs.Sets.{union}
-use Rattle.form_first_n.specs.Candidates.{leading}
 use Rattle.form_first_n.proofs.Candidates.{leading-none, leading_more}
 use Rattle.form_first_n.proofs.leading.Goals as goal
 
-pub loop-j-init : goal.loop-j-init
-loop-j-init c = (search rules, leading-none _)
+pub loop-before-init : goal.loop-before-init
+loop-before-init c = leading-none _
 
-pub loop-j-preserved : goal.loop-j-preserved
-loop-j-preserved c =
-    let l = c.loop-j in
+pub loop-before-preserved : goal.loop-before-preserved
+loop-before-preserved c =
+    let l = c.loop-before in
     let p = c.args.prior.now in
-    (search rules, c.union32-set.ensures ∙ ap (λ (s : ℕ). union s (get_or p l.j 0)) l.invariant.1 ∙ leading_more _ _)
-
-pub returns : goal.returns
-returns c =
-    let e : c.loop-j.j ≡ c.args.n = omega arith in
-    c.loop-j.invariant.1 ∙ ap (leading c.args.prior.now) e
+    let below : l.before-index < c.args.n = omega (arith, length-take-le c.args.n p) in
+    c.union-set.ensures ∙ ap₂ union l.invariant (get_or-take c.args.n p l.before-index 0 below) ∙ leading_more _ _

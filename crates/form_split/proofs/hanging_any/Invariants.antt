@@ -1,13 +1,6 @@
-use mathlib.Core.Path.{◌≡◌}
-use Prim.Native.Nat.{◌^◌, ◌<◌}
-use lib.ListN.{length}
-use Rattle.sets.specs.Sets.{union, members}
-use Rattle.form_split.specs.Hang.{hanging_any}
+use Rattle.sets.specs.Sets.{members}
+use Rattle.form_split.proofs.Grow.{Finding}
 use Rattle.form_split.proofs.hanging_any.Given as goal
 
-abbrev pub invariant-loop-todo : goal.invariant-loop-todo
-invariant-loop-todo l =
-    (l.all < 2 ^ 32) × (l.todo < 2 ^ 32) × (union l.all (hanging_any 32 l.after l.prior l.k l.left l.todo) ≡ hanging_any 32 l.after l.prior l.k l.left l.set)
-
-abbrev pub decreases-loop-todo : goal.decreases-loop-todo
-decreases-loop-todo l = length (members 32 l.todo)
+abbrev pub invariant-loop-i : goal.invariant-loop-i
+invariant-loop-i l = Finding 32 l.order.after.now l.order.prior.now l.k l.left l.set l.all (members 32 l.i-iterator.rest)

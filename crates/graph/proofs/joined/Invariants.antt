@@ -1,12 +1,7 @@
 use mathlib.Core.Path.{◌≡◌}
 use Prim.Native.Nat.{◌<◌, ◌^◌}
-use lib.ListN.{length}
-use Rattle.sets.specs.Sets.{members}
 use Rattle.graph.specs.PassRows.{gather}
 use Rattle.graph.proofs.joined.Given as goal
 
-abbrev pub invariant-loop-left : goal.invariant-loop-left
-invariant-loop-left l = (l.all < 2 ^ 32) × (l.left < 2 ^ 32) × (gather 32 l.rows l.all l.left ≡ gather 32 l.rows l.row l.row)
-
-abbrev pub decreases-loop-left : goal.decreases-loop-left
-decreases-loop-left l = length (members 32 l.left)
+abbrev pub invariant-loop-k : goal.invariant-loop-k
+invariant-loop-k l = (l.all < 2 ^ 32) × (gather 32 l.rows l.all l.k-iterator.rest ≡ gather 32 l.rows l.row l.row)

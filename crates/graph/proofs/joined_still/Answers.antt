@@ -1,8 +1,7 @@
 use borrow.Author.Rules.{rules}
 use mathlib.Core.Path.{◌≡◌, refl, sym, ap, ap₂, ◌∙◌}
 use mathlib.Core.Bool.{not}
-use Prim.Native.Nat.{ℕ, ◌<◌}
-use native.Mathlib.Omega.{arith}
+use Prim.Native.Nat.{ℕ}
 use lib.ListN.{get_or}
 use Rattle.logic.proofs.Bools.{and_l}
 use Rattle.sets.specs.Sets.{has, union, without, single, first}
@@ -10,34 +9,21 @@ use Rattle.sets.proofs.Membership.{has-without, subset-has, first_member}
 use Rattle.sets.proofs.Members.{first_in_lem}
 use Rattle.sets.proofs.Builder.{without_lt}
 use Rattle.graph.specs.PassRows.{gather}
-use Rattle.graph.proofs.Gathering.{gather-end, gather_skip, turn_less}
+use Rattle.graph.proofs.Gathering.{gather_end, gather_skip, turn_less}
 use Rattle.graph.proofs.joined_still.Goals as goal
 
 pub loop-left-init : goal.loop-left-init
 loop-left-init c = (c.ranges.row.fits, c.ranges.row.fits, refl, subset-has c.args.row c.args.still c.requires.1)
 
--- the goal is one of 32
-goal_in : (c : goal.After-first32-k) → c.first32-k.result < 32
-goal_in c = omega (arith, c.first32-k.ensures, first_in_lem 32 c.loop-left.left c.loop-left.invariant.1 c.loop-left-test.true)
-
-pub offset_bounds-rows-k : goal.offset_bounds-rows-k
-offset_bounds-rows-k c = omega (arith, goal_in c)
-
-pub bounds-rows-k : goal.bounds-rows-k
-bounds-rows-k c = goal_in c.before.before
-
-pub without_first32-requires : goal.without_first32-requires
-without_first32-requires c = c.loop-left-test.true
-
 -- what is left
-left_is : (c : goal.After-without32-left) →
+left_is : (c : goal.After-without-left) →
     let a = c.args in
     let l = c.loop-left in
     let x : ℕ = first 32 l.left in
-    c.without32-left.result ≡ without (without l.left (single x)) (get_or a.rows.now x 0)
+    c.without-left.result ≡ without (without l.left (single x)) (get_or a.rows.now x 0)
 left_is c =
-    c.without32-left.ensures
-    ∙ ap₂ without c.without_first32.ensures (ap (λ (x : ℕ). get_or c.args.rows.now x 0) c.first32-k.ensures)
+    c.without-left.ensures
+    ∙ ap₂ without c.without_first.ensures (ap (λ (x : ℕ). get_or c.args.rows.now x 0) c.first-k.ensures)
 
 pub loop-left-smaller : goal.loop-left-smaller
 loop-left-smaller c =
@@ -51,7 +37,7 @@ loop-left-preserved c =
     let some = c.loop-left-test.true in
     let one = without l.left (single (first 32 l.left)) in
     let row = get_or rows (first 32 l.left) 0 in
-    let all = c.union32-all.ensures ∙ ap (λ (x : ℕ). union l.all (get_or rows x 0)) c.first32-k.ensures in (
+    let all = c.union-all.ensures ∙ ap (λ (x : ℕ). union l.all (get_or rows x 0)) c.first-k.ensures in (
       search rules,
       rw (left_is c) (without_lt 32 _ _ (without_lt 32 l.left _ l.invariant.1)),
       ap₂ (gather 32 rows) all (left_is c)
@@ -68,4 +54,4 @@ loop-left-preserved c =
 pub returns : goal.returns
 returns c =
     let l = c.loop-left in
-    gather-end 32 c.args.rows.now l.all l.left l.invariant.0 c.loop-left-test.false ∙ l.invariant.2
+    gather_end 32 c.args.rows.now l.all l.left l.invariant.0 c.loop-left-test.false ∙ l.invariant.2

@@ -1,5 +1,5 @@
 use mathlib.Core.List.{List}
-use Prim.Native.Nat.{ℕ, suc, ◌≤◌}
+use Prim.Native.Nat.{ℕ, suc}
 use Rattle.graph.specs.Graph.{ahead, goals_of}
 use Rattle.graph.specs.Passes.{pass}
 use Rattle.graph.proofs.Gathering.{Filled, Kept}
@@ -10,7 +10,4 @@ abbrev pub row : ℕ → List ℕ → ℕ → ℕ
 row n rows k = goals_of n (pass n (ahead rows) (suc k))
 
 abbrev pub invariant-loop-i : goal.invariant-loop-i
-invariant-loop-i l = (l.i ≤ l.n) × Filled 32 l.n (row l.n l.rows) l.i l.next × Kept l.n (row l.n l.rows) l.rows l.i l.still
-
-abbrev pub decreases-loop-i : goal.decreases-loop-i
-decreases-loop-i l = l.i
+invariant-loop-i l = Filled 32 l.n (row l.n l.rows) l.i l.next × Kept l.n (row l.n l.rows) l.rows l.i l.still

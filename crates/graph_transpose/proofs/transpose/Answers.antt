@@ -1,26 +1,28 @@
 use native.Mathlib.Omega.{arith}
-use mathlib.Core.Path.{◌≡◌, subst}
-use Prim.Native.Nat.{ℕ}
-use Rattle.graph_transpose.proofs.Turning.{Turned, turned-size, turned_none, turned_more, turned-all}
+use mathlib.Core.Path.{◌≡◌, ap, ◌∙◌, subst}
+use Prim.Native.Nat.{ℕ, ◌<◌}
+use lib.Seq.{length-take-le}
+use Rattle.std.proofs.lemmas.List.{get_or-take}
+use Rattle.graph_transpose.specs.Adding.{added}
+use Rattle.graph_transpose.proofs.Turning.{Turned, turned_none, turned_more, turned-all}
 use Rattle.graph_transpose.proofs.transpose.Goals as goal
 
 pub loop-i-init : goal.loop-i-init
-loop-i-init c = (omega arith, turned_none 32 c.args.rows.now)
-
-pub add-requires : goal.add-requires
-add-requires c =
-    let l = c.loop-i in
-    turned-size 32 c.args.rows.now l.i l.turned l.invariant.1
+loop-i-init c = turned_none 32 c.args.rows.now
 
 pub loop-i-preserved : goal.loop-i-preserved
 loop-i-preserved c =
     let l = c.loop-i in
-    let a = c.args in
-    (omega arith, turned_more 32 a.rows.now l.i l.turned _ _ l.invariant.1 c.single32-one.ensures c.add.ensures)
+    let rows = c.args.rows.now in
+    let below : l.i < c.args.n = omega (arith, length-take-le c.args.n rows) in
+    let row = get_or-take c.args.n rows l.i 0 below in
+    turned_more 32 rows l.i l.turned _ _ l.invariant c.single-one.ensures
+    (c.add.ensures ∙ ap (λ (to : ℕ). added 32 to c.single-one.result l.turned) row)
 
 pub returns : goal.returns
 returns c =
     let l = c.loop-i in
-    let end : l.i ≡ c.args.n = omega arith in
-    turned-all 32 c.args.rows.now c.args.n l.turned c.requires.0 c.requires.1
-    (subst (λ (k : ℕ). Turned 32 c.args.rows.now k l.turned) end l.invariant.1)
+    let rows = c.args.rows.now in
+    let end : l.i ≡ c.args.n = omega (arith, length-take-le c.args.n rows) in
+    turned-all 32 rows c.args.n l.turned c.requires.0 c.requires.1
+    (subst (λ (k : ℕ). Turned 32 rows k l.turned) end l.invariant)

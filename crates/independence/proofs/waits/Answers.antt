@@ -9,5 +9,5 @@ use Rattle.independence.proofs.waits.Goals as goal
 
 pub returns : goal.returns
 returns c =
-    ap (λ (m : ℕ). not (eqb m 0)) (c.union32.ensures ∙ ap₂ union c.meet32-low.ensures c.meet32-high.ensures)
+    ap (λ (m : ℕ). not (eqb m 0)) (c.union.ensures ∙ ap₂ union c.meet-low.ensures c.meet-high.ensures)
     ∙ tied-halves 32 c.args.ties c.args.later (omega arith) (omega arith)

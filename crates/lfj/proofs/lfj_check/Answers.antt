@@ -1,8 +1,13 @@
-use Rattle.lfj.proofs.Words.{check-refused, check-verdict}
+use Rattle.std.specs.Prelude.{Ok, Err}
+use Rattle.annotator.specs.Answers.{check_outcome}
+use Rattle.lfj_words.specs.Words.{check_word}
+use Rattle.lfj.proofs.Words.{said}
 use Rattle.lfj.proofs.lfj_check.Goals as goal
 
-pub returns-in-Rejected : goal.returns-in-Rejected
-returns-in-Rejected c = check-refused c.check.ensures _ c.in-Rejected.is c.refused.ensures
+pub returns-in-Ok : goal.returns-in-Ok
+unfolding check_word
+returns-in-Ok c = said check_outcome check_word (Ok _) c.check.ensures c.in-Ok.is c.verdict.ensures
 
-pub returns-in-Verdict : goal.returns-in-Verdict
-returns-in-Verdict c = check-verdict c.check.ensures c.in-Verdict.is c.verdict.ensures
+pub returns-in-Err : goal.returns-in-Err
+unfolding check_word
+returns-in-Err c = said check_outcome check_word (Err _) c.check.ensures c.in-Err.is c.refused.ensures

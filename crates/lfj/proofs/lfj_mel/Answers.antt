@@ -1,8 +1,13 @@
-use Rattle.lfj.proofs.Words.{mel-refused, mel_accepted}
+use Rattle.std.specs.Prelude.{Ok, Err}
+use Rattle.record_rules.specs.Outcome.{outcome}
+use Rattle.lfj_words.specs.Words.{mel_word}
+use Rattle.lfj.proofs.Words.{said}
 use Rattle.lfj.proofs.lfj_mel.Goals as goal
 
-pub returns-in-Refused : goal.returns-in-Refused
-returns-in-Refused c = record { value = mel-refused c.mel.ensures.result_value _ c.in-Refused.is c.refused.ensures; out_after = c.mel.ensures.out_after }
+pub returns-in-Ok-clause-value : goal.returns-in-Ok-clause-value
+unfolding mel_word
+returns-in-Ok-clause-value c = said outcome mel_word (Ok _) c.mel.ensures.result_value c.in-Ok.is c.low.ensures
 
-pub returns-in-Done : goal.returns-in-Done
-returns-in-Done c = record { value = mel_accepted c.mel.ensures.result_value _ c.in-Done.is c.low.ensures; out_after = c.mel.ensures.out_after }
+pub returns-in-Err-clause-value : goal.returns-in-Err-clause-value
+unfolding mel_word
+returns-in-Err-clause-value c = said outcome mel_word (Err _) c.mel.ensures.result_value c.in-Err.is c.refused.ensures

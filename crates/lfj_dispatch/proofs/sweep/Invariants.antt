@@ -1,9 +1,5 @@
-use Rattle.std.proofs.Common.{length, ◌-◌}
 use Rattle.lfj_dispatch.proofs.SweepLaws.{Swept}
 use Rattle.lfj_dispatch.proofs.sweep.Given as goal
 
-abbrev pub invariant-loop-i : goal.invariant-loop-i
-invariant-loop-i l = Swept l.p l.fn.heads l.fn.b l.i l.heads l.board
-
-abbrev pub decreases-loop-i : goal.decreases-loop-i
-decreases-loop-i l = length l.initial.heads - l.i
+abbrev pub invariant-loop-h : goal.invariant-loop-h
+invariant-loop-h l = Swept l.p l.fn.heads l.fn.b l.h-index l.heads (record { phase = l.phase; free = l.free; done = l.done })

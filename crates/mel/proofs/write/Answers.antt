@@ -1,40 +1,45 @@
-use mathlib.Core.Path.{◌≡◌, ◌∙◌, sym}
+use mathlib.Core.Path.{◌≡◌, ◌∙◌, ap}
 use native.Mathlib.Omega.{arith}
-use Rattle.record_rules.specs.declared.Reading.TheVariants.{Fine}
-use Rattle.record_rules.specs.Reading.{reading}
+use lib.ListN.{length}
+use Rattle.std.proofs.lemmas.Result.{err_from_is_err_and}
 use Rattle.record.proofs.WellFormed.{fine_well_formed}
-use Rattle.clause.proofs.Decoded.{clause-count}
-use Rattle.mel.proofs.Record.{clause-text, clause-length, clause-room}
+use Rattle.record.specs.WellFormed.{WellFormed}
+use Rattle.clause.specs.Clause.{decoded}
+use Rattle.mel_text.specs.StageTexts as X
+use Rattle.mel.specs.Annotation.{mel}
+use Rattle.mel.proofs.Record.{clause-text, clause-length}
 use Rattle.mel.proofs.Outcomes.{refused-answer, refused_buffer, fine-text}
 use Rattle.mel.proofs.write.Goals as goal
-use Rattle.mel.proofs.write.Goals.{In-Fine}
+use Rattle.mel.proofs.write.Goals.{In_ok-given, After-decode-c, After-new-clause}
 
 -- the record was read
-fine : (c : In-Fine) → reading c.args.b.now ≡ Fine
-fine c = sym c.read-s.ensures ∙ c.in-Fine.is
+formed : (c : In_ok-given) → WellFormed c.args.b.now
+formed c = fine_well_formed _ c.in_ok-given.ensures.0
 
-pub decode-c-requires : goal.decode-c-requires
-decode-c-requires c = fine_well_formed _ (fine (goal.at.decode-c-requires c).In-Fine)
+-- its clause, and the text
+is_decoded : (c : After-decode-c) → c.decode-c.result ≡ decoded c.args.b.now
+is_decoded c = c.decode-c.ensures ∙ ap decoded c.in_ok-given.ensures.1
 
-pub slice_bounds-sets-end : goal.slice_bounds-sets-end
-slice_bounds-sets-end c = clause-room _ (fine_well_formed _ (fine (goal.at.slice_bounds-sets-end c).In-Fine)) _ c.decode-c.ensures
+text : (c : After-new-clause) → WellFormed c.args.b.now → c.decode-c.result ≡ decoded c.args.b.now → X.mel_of c.new-clause.result ≡ mel c.args.b.now
+text c w d =
+    let s = c.new-clause.ensures in
+    rw (s.head_is, s.sets_is, s.grounds_is, s.listed_is) (clause-text _ w _ d)
 
-pub slice_bounds-write_clause-end : goal.slice_bounds-write_clause-end
-slice_bounds-write_clause-end c =
-    clause-count _ (fine_well_formed _ (fine (goal.at.slice_bounds-write_clause-end c).In-Fine)) _ c.decode-c.ensures ∙ sym (clause-length _ (fine_well_formed _ (fine (goal.at.slice_bounds-write_clause-end c).In-Fine)) _ c.decode-c.ensures)
+pub returns-in_err-given : goal.returns-in_err-given
+returns-in_err-given c =
+    let p = err_from_is_err_and c.from_residual.result c.from_residual.ensures.1 in
+    let e = c.in_err-given.ensures in
+    rw (p.1, p.2) (record { result_value = refused-answer _ _ _ e; out_after = refused_buffer _ _ _ e })
 
 pub write_clause-requires : goal.write_clause-requires
 write_clause-requires c =
-    let w = fine_well_formed _ (fine (goal.at.write_clause-requires c).In-Fine) in
-    let l = clause-length _ w _ c.decode-c.ensures in
-    (omega (arith, l, w.goals_from), omega (arith, l, w.goals_to))
+    let w = formed (goal.at.write_clause-requires c).In_ok-given in
+    omega (arith, ap length c.new-clause.ensures.sets_is, clause-length _ w _ (is_decoded (goal.at.write_clause-requires c).After-decode-c), w.goals_from)
 
-pub returns-in-Refused : goal.returns-in-Refused
-returns-in-Refused c = let e = sym c.read-s.ensures ∙ c.in-Refused.is in record { result_value = refused-answer _ _ _ e; out_after = refused_buffer _ _ _ e }
-
-pub returns-in-Fine : goal.returns-in-Fine
-returns-in-Fine c =
+pub returns : goal.returns
+returns c =
     let w = c.write_clause.ensures in
-    let r = fine-text _ _ (w.result_value, w.out_after) (clause-text _ (fine_well_formed _ (fine (goal.at.returns-in-Fine c).In-Fine)) _ c.decode-c.ensures) (fine (goal.at.returns-in-Fine c).In-Fine)
-    in
+    let i = (goal.at.returns c).In_ok-given in
+    let t = text (goal.at.returns c).After-new-clause (formed i) (is_decoded (goal.at.returns c).After-decode-c) in
+    let r = fine-text _ _ (w.result_value, w.out_after) t c.in_ok-given.ensures.0 in
     record { result_value = r.0; out_after = r.1 }

@@ -3,9 +3,6 @@ use Rattle.buffer.proofs.Writing.{then, recast}
 use Rattle.mel_checks.proofs.Checks.{ground-parts, ground-length}
 use Rattle.mel_checks.proofs.put_ground.Goals as goal
 
-pub put_bytes-o-requires : goal.put_bytes-o-requires
-put_bytes-o-requires c = omega arith
-
 pub put_number-o-requires : goal.put_number-o-requires
 put_number-o-requires c = omega (arith, ground-length c.args.x)
 

@@ -1,50 +1,23 @@
-use Prim.Native.Nat.{◌<◌}
-use mathlib.Core.Path.{◌≡◌, ap}
-use mathlib.Core.List.{◌++◌}
-use native.Mathlib.Omega.{arith}
-use lib.ListN.{length, length-append}
-use Rattle.sets.specs.Sets.{first, without, single}
-use Rattle.sets.proofs.Members.{first_in_lem, fewer}
-use Rattle.buffer.proofs.Writing.{start, onward, done, left_kept}
+use Rattle.std.proofs.Common.{◌≡◌, ◌++◌, ap, length, length-append, arith}
+use Rattle.buffer.proofs.Writing.{start, onward, done}
 use Rattle.mel_stages.specs.Mel as W
 use Rattle.mel_checks.specs.CheckTexts as X
 use Rattle.mel_checks.proofs.Checks.{grounds_step, grounds_end}
-use borrow.Author.Rules.{rules}
 use Rattle.mel_checks.proofs.put_grounds.Goals as goal
-use Rattle.mel_checks.proofs.put_grounds.Goals.{After-first-x}
+use Rattle.mel_checks.proofs.put_grounds.Goals.{In-Some}
 
 -- what a turn writes, and what it leaves
-turn : (c : After-first-x) →
-    let l = c.loop-rest in
-    X.grounds_text 64 l.rest ≡ X.item (W.Ground c.first-x.result) ++ X.grounds_text 64 (without l.rest (single (first 64 l.rest)))
-turn c = rw c.first-x.ensures (grounds_step 64 _ c.loop-rest.invariant.0 c.loop-rest-test.true)
+turn : (c : In-Some) → X.grounds_text 64 c.loop-x.x-iterator.rest ≡ X.item (W.Ground c.in-Some.x) ++ X.grounds_text 64 c.next.new.self.rest
+turn c = grounds_step 64 _ _ _ c.in-Some.ensures.steps
 
-small : (c : After-first-x) → c.first-x.result < 64
-small c = rw c.first-x.ensures (first_in_lem 64 _ c.loop-rest.invariant.0 c.loop-rest-test.true)
-
-pub loop-rest-init : goal.loop-rest-init
-loop-rest-init c = (search rules, start _ _ _)
-
-pub first-x-requires : goal.first-x-requires
-first-x-requires c = tt
-
-pub overflow_cast-x : goal.overflow_cast-x
-overflow_cast-x c = omega (arith, small (goal.at.overflow_cast-x c).After-first-x)
+pub loop-x-init : goal.loop-x-init
+loop-x-init c = rw (c.into_iter-x-iterator.ensures.into_iter_gives, c.members-x-items.ensures) (start _ _ _)
 
 pub put_ground-o-requires : goal.put_ground-o-requires
-put_ground-o-requires c = omega (arith, simp length-append at (ap length (turn (goal.at.put_ground-o-requires c).After-first-x)))
+put_ground-o-requires c = omega (arith, simp length-append at (ap length (turn (goal.at.put_ground-o-requires c).In-Some)))
 
-pub without_first-rest-requires : goal.without_first-rest-requires
-without_first-rest-requires c = omega (arith, c.loop-rest-test.true)
-
-pub loop-rest-smaller : goal.loop-rest-smaller
-loop-rest-smaller c = rw c.without_first-rest.ensures (fewer 64 _ c.loop-rest.invariant.0 c.loop-rest-test.true)
-
-pub loop-rest-preserved : goal.loop-rest-preserved
-loop-rest-preserved c = (c.without_first-rest.type_inv, rw c.without_first-rest.ensures (onward c.loop-rest.invariant.1 c.put_ground-o.ensures (turn (goal.at.loop-rest-preserved c).After-first-x)))
-
-pub shape_of-out : goal.shape_of-out
-shape_of-out c = left_kept c.loop-rest.invariant.1
+pub loop-x-preserved : goal.loop-x-preserved
+loop-x-preserved c = onward c.loop-x.invariant c.put_ground-o.ensures (turn (goal.at.loop-x-preserved c).In-Some)
 
 pub returns : goal.returns
-returns c = done c.loop-rest.invariant.1 (grounds_end 64 _ c.loop-rest-test.false)
+returns c = done c.loop-x.invariant (grounds_end 64 _ c.in-None.ensures.steps.0)

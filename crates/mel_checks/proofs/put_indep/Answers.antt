@@ -5,29 +5,17 @@ use Rattle.buffer.proofs.Decimal.{one_digit, two_digits}
 use Rattle.mel_checks.proofs.Checks.{indep_numbered}
 use Rattle.mel_checks.proofs.put_indep.Goals as goal
 
-pub put_numbered-requires : goal.put_numbered-requires
-put_numbered-requires c = (omega arith, omega arith, omega arith, omega arith)
-
 pub returns-then-y-lt10 : goal.returns-then-y-lt10
 returns-then-y-lt10 c =
     recast (indep_numbered _ _ _ _ (one_digit _ c.if-x-lt10.true) (one_digit _ c.if-y-lt10.true) refl) c.put_numbered.ensures
-
-pub put_numbered-requires-then-x-lt10 : goal.put_numbered-requires-then-x-lt10
-put_numbered-requires-then-x-lt10 c = (omega arith, omega arith, omega arith, omega arith)
 
 pub returns-then-x-lt10 : goal.returns-then-x-lt10
 returns-then-x-lt10 c =
     recast (indep_numbered _ _ _ _ (one_digit _ c.if-x-lt10.true) (two_digits _ c.if-y-lt10.false (omega arith)) refl) c.put_numbered-then-x-lt10.ensures
 
-pub put_numbered-requires-then-y-lt10-2 : goal.put_numbered-requires-then-y-lt10-2
-put_numbered-requires-then-y-lt10-2 c = (omega arith, omega arith, omega arith, omega arith)
-
 pub returns-then-y-lt10-2 : goal.returns-then-y-lt10-2
 returns-then-y-lt10-2 c =
     recast (indep_numbered _ _ _ _ (two_digits _ c.if-x-lt10.false (omega arith)) (one_digit _ c.if-y-lt10-2.true) refl) c.put_numbered-then-y-lt10-2.ensures
-
-pub put_numbered-requires-2 : goal.put_numbered-requires-2
-put_numbered-requires-2 c = (omega arith, omega arith, omega arith, omega arith)
 
 pub returns : goal.returns
 returns c =

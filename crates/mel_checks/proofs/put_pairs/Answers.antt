@@ -1,4 +1,4 @@
-use mathlib.Core.Path.{refl, ap}
+use mathlib.Core.Path.{ap}
 use native.Mathlib.Omega.{arith}
 use lib.ListN.{length}
 use Rattle.mel_checks.proofs.Checks.{pairs-none, own_rows}
@@ -8,11 +8,8 @@ use Rattle.mel_checks.proofs.put_pairs.Goals as goal
 pub returns-then-k-eq0 : goal.returns-then-k-eq0
 returns-then-k-eq0 c = recast (pairs-none 64 _ _ _ _ _ c.if-k-eq0.true) (none _ _)
 
-pub own_goals-requires : goal.own_goals-requires
-own_goals-requires c = record { p_le_q = (omega arith, omega arith); own_value = refl }
-
 pub put_rows-requires : goal.put_rows-requires
-put_rows-requires c = let a = c.args in omega (arith, ap length (own_rows 64 a.sets.now a.listed.now a.p a.q a.k _ c.own_goals.ensures))
+put_rows-requires c = let a = c.args in omega (arith, ap length (own_rows 64 a.sets.now a.listed.now a.stage.after a.stage.last a.k _ c.own_goals.ensures))
 
 pub returns : goal.returns
 returns c = recast (own_rows 64 _ _ _ _ _ _ c.own_goals.ensures) c.put_rows.ensures

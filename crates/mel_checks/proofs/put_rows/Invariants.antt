@@ -1,12 +1,6 @@
-use Prim.Native.Nat.{◌<◌, ◌^◌}
-use lib.ListN.{length}
-use Rattle.sets.specs.Sets.{members}
 use Rattle.buffer.proofs.Writing.{Left}
 use Rattle.mel_checks.specs.CheckTexts as X
 use Rattle.mel_checks.proofs.put_rows.Given as goal
 
-abbrev pub invariant-loop-rest : goal.invariant-loop-rest
-invariant-loop-rest l = (l.rest < 2 ^ 64) × Left (X.rows_text 64 l.own l.listed l.k l.rest) (X.rows_text 64 l.own l.listed l.k l.k) l.at l.initial.out l.o l.out
-
-abbrev pub decreases-loop-rest : goal.decreases-loop-rest
-decreases-loop-rest l = length (members 64 l.rest)
+abbrev pub invariant-loop-x : goal.invariant-loop-x
+invariant-loop-x l = Left (X.rows_text 64 l.own l.listed l.k l.x-iterator.rest) (X.rows_text 64 l.own l.listed l.k l.k) l.at l.initial.out l.o l.out

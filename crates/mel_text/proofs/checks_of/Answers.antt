@@ -1,8 +1,4 @@
-use Prim.Native.Nat.{ℕ}
-use mathlib.Core.Path.{◌≡◌, refl, ap, ◌∙◌}
-use mathlib.Core.List.{List}
-use native.Mathlib.Omega.{arith}
-use lib.ListN.{get_or}
+use Rattle.std.proofs.Common.{ℕ, ◌≡◌, List, ap, ◌∙◌, get_or, arith}
 use Rattle.mel_stages.specs.Masks as M
 use Rattle.mel_stages.proofs.Masks.{upto_at}
 use Rattle.mel_text.proofs.checks_of.Goals as goal
@@ -11,19 +7,11 @@ use Rattle.mel_text.proofs.checks_of.Goals.{After-goal-grounded}
 -- the variables before the stage
 met : (c : After-goal-grounded) →
     let a = c.args in
-    get_or a.before.now a.p 0 ≡ M.once a.sets.now 0 a.p
+    get_or a.clause.now.before a.stage.after 0 ≡ M.once a.clause.now.sets.now 0 a.stage.after
 met c =
     let a = c.args in
-    let e : a.before.now ≡ M.up_to 33 a.sets.now = (search) in
-    ap (λ (l : List ℕ). get_or l a.p 0) e ∙ upto_at 33 _ _ (omega arith) (omega arith)
+    ap (λ (l : List ℕ). get_or l a.stage.after 0) a.clause.now.before_is ∙ upto_at 33 _ _ (omega arith) (omega arith)
 
-pub offset_bounds-before-p : goal.offset_bounds-before-p
-offset_bounds-before-p c = omega arith
-
-pub bounds-before-p : goal.bounds-before-p
-bounds-before-p c = omega arith
-
-pub returns : goal.returns
-returns c =
-    rw (c.without.ensures, c.candidates-pairs.ensures, c.counted-s.ensures.0, c.counted-s.ensures.1, c.union-met.ensures, met (goal.at.returns c).After-goal-grounded, c.goal-grounded.ensures)
-    (record { ground_value = refl; pairs_value = refl })
+pub returns-clause-pairs_value : goal.returns-clause-pairs_value
+returns-clause-pairs_value c =
+    rw (c.candidates.ensures, c.counted-seen.ensures.once_is, c.counted-seen.ensures.twice_is, c.union-met.ensures, met (goal.at.returns-clause-pairs_value c).After-goal-grounded, c.goal-grounded.ensures)

@@ -8,15 +8,15 @@ use Rattle.order.proofs.closure_of.Goals as goal
 
 pub closed-requires : goal.closed-requires
 closed-requires c =
-    let a = c.args in
-    rw c.waits_of.ensures (waits_graph a.n a.sets.now a.grounds.now a.listed.now c.requires)
+    let a = c.args.c.now in
+    rw c.waits_of.ensures (waits_graph a.n a.sets a.grounds a.listed c.requires)
 
 pub returns : goal.returns
 unfolding order_rows passes_of wait_rows
 returns c =
-    let a = c.args in
+    let a = c.args.c.now in
     let e = c.closed.ensures ∙ ap closed_of c.waits_of.ensures in record {
       graph_value = ap (λ (x : Closed). x.graph) e
-          ∙ closed_chains _ (waits_graph a.n a.sets.now a.grounds.now a.listed.now c.requires);
-      passes_value = ap (λ (x : Closed). x.passes) e ∙ passes_of_lem a.n (waits_in 64 0 a.sets.now a.grounds.now a.listed.now) c.requires;
+          ∙ closed_chains _ (waits_graph a.n a.sets a.grounds a.listed c.requires);
+      passes_value = ap (λ (x : Closed). x.passes) e ∙ passes_of_lem a.n (waits_in 64 0 a.sets a.grounds a.listed) c.requires;
     }

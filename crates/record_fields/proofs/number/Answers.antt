@@ -1,34 +1,16 @@
-use mathlib.Core.Path.{◌≡◌}
 use native.Mathlib.Omega.{arith}
-use borrow.Author.Rules.{rules}
-use Rattle.record_fields.proofs.Digits.{step_fits, step_lt, number-zero, number_more}
+use Rattle.record_fields.proofs.Digits.{step_fits, step_lt, number_more}
 use Rattle.record_fields.proofs.number.Goals as goal
 
-pub loop-i-init : goal.loop-i-init
-loop-i-init c = (search rules, number-zero _ _, omega arith)
-
 pub overflow_mul-r : goal.overflow_mul-r
-overflow_mul-r c = let l = c.loop-i in
-    let x = step_fits l.r 0 l.i l.invariant.2 (omega arith) (omega arith) in
-    record { fits = omega arith }
-
-pub overflow_add-at : goal.overflow_add-at
-overflow_add-at c = omega arith
+overflow_mul-r c =
+    let x = step_fits c.loop-i.r 0 c.loop-i.i c.loop-i.invariant.fits (omega arith) (omega arith) in record { fits = omega arith }
 
 pub overflow_add-r : goal.overflow_add-r
-overflow_add-r c = let l = c.loop-i in
-    record { fits = step_fits l.r c.wide.result l.i l.invariant.2 (omega arith) (omega arith) }
-
-pub overflow_add-i : goal.overflow_add-i
-overflow_add-i c = omega arith
-
-pub loop-i-smaller : goal.loop-i-smaller
-loop-i-smaller c = omega arith
+overflow_add-r c =
+    record { fits = step_fits c.loop-i.r c.from.result c.loop-i.i c.loop-i.invariant.fits (omega arith) (omega arith) }
 
 pub loop-i-preserved : goal.loop-i-preserved
 loop-i-preserved c = let l = c.loop-i in
-    let a = c.args in
-    (omega arith, cc (number_more a.b.now a.at l.i), step_lt l.r c.wide.result l.i l.invariant.2 (omega arith))
-
-pub returns : goal.returns
-returns c = let e : c.loop-i.i ≡ c.args.k = omega arith in cc
+    let more = number_more c.args.b.now c.args.at l.i in
+    record { so_far = cc; fits = step_lt l.r c.from.result l.i l.invariant.fits (omega arith) }

@@ -1,18 +1,16 @@
+use mathlib.Core.Path.{sym, ap, ◌∙◌}
+use Prim.Native.Nat.{ℕ}
 use native.Mathlib.Omega.{arith}
-use Rattle.record_goals.proofs.GoalSteps.{steps}
+use lib.Dec.{leb}
+use lib.ListN.{length}
+use Rattle.std.specs.Prelude.{Ok}
+use Rattle.record_rules.specs.Reading.{◌must◌else◌place◌}
+use Rattle.record_goals.proofs.GoalSteps.{goal_short}
 use Rattle.record_goals.proofs.goal.Goals as goal
 
-pub overflow_add-text : goal.overflow_add-text
-overflow_add-text c = omega (arith, c.text_at-text.ensures.upper_bound, c.requires.0, c.requires.1)
-
-pub overflow_add-text-2 : goal.overflow_add-text-2
-overflow_add-text-2 c = omega (arith, c.text_at-text.ensures.upper_bound, c.requires.0, c.requires.1)
-
-pub returns : goal.returns
-returns c =
+pub returns-in_err-ensure : goal.returns-in_err-ensure
+returns-in_err-ensure c =
     let a = c.args in
-    steps a.b.now a.at a.v a.k _ a.before a.met c.requires.2 c.requires.3 c.text_at-text.ensures.value _ _ _ _ _ _ _ _ _ _ _ _ _ _ _ _
-    c.length_at-at_length.ensures.value c.find_bad-bad.ensures c.set_at-set.ensures c.ground_of-grounded.ensures
-    c.ticks_of.ensures c.within.ensures c.grows-grown.ensures c.ticks_fine-timed.ensures
-    c.length_fine.ensures c.also-s.ensures c.also-s-2.ensures c.also-s-3.ensures
-    c.also-s-4.ensures c.also-s-5.ensures c.also-s-6.ensures c.also.ensures
+    let n = length a.layout.now.bytes.now in
+    let text = ap (λ (x : ℕ). Ok tt must leb x n else 7 place n) c.text_at-text.ensures.value in
+    let e = goal_short a.layout.now.bytes.now a.at a.before a.met _ (sym text ∙ sym c.ensure.ensures ∙ c.in_err-ensure.was) in grind (arith, e)

@@ -1,74 +1,44 @@
-use Prim.Native.Nat.{ℕ, ◌≤◌, ◌+◌, ◌*◌}
-use mathlib.Core.Path.{◌≡◌, sym, ap, ◌∙◌}
+use Prim.Native.Nat.{◌≤◌, ◌+◌, ◌*◌}
+use mathlib.Core.Path.{refl, sym, ◌∙◌}
 use native.Mathlib.Omega.{arith}
 use lib.ListN.{length}
-use Rattle.record_rules.specs.declared.Reading.TheVariants.{Fine}
-use Rattle.record_rules.specs.Reading as R
-use Rattle.record_rules.proofs.Fine.{pairs_start}
-use Rattle.record_pairs.proofs.PairTurns.{last-zero, last_turn, short, go, stop}
+use borrow.Author.Tests.{leb-true}
+use Rattle.record_rules.proofs.Must.{must_holds}
+use Rattle.record_pairs.proofs.PairTurns.{short, go, stop, last_turn}
+use Rattle.record_pairs.proofs.pairs.Goals.{In_ok-ensure}
 use Rattle.record_pairs.proofs.pairs.Goals as goal
 
-pub loop-k-init : goal.loop-k-init
-loop-k-init c = (omega arith, pairs_start _, last-zero _)
+whole : (c : In_ok-ensure) → c.args.from + 2 * c.loop-k.k + 2 ≤ length c.args.b.now
+whole c = leb-true _ _ (must_holds _ _ 7 _ (sym c.ensure.ensures ∙ c.in_ok-ensure.was))
 
-pub overflow_mul-at : goal.overflow_mul-at
-overflow_mul-at c = omega arith
-
-pub overflow_add-at : goal.overflow_add-at
-overflow_add-at c = omega arith
-
-pub overflow_add-at-in-loop-k : goal.overflow_add-at-in-loop-k
-overflow_add-at-in-loop-k c = omega arith
-
-pub returns-then-size-at : goal.returns-then-size-at
-returns-then-size-at c = let l = c.loop-k in
+pub returns-in_err-ensure : goal.returns-in_err-ensure
+returns-in_err-ensure c = let l = c.loop-k in
     let a = c.args in
-    short a.b.now a.from l.k a.p c.requires.3 (omega arith) l.invariant.1 (omega arith)
+    let e = short a.b.now a.from l.k c.requires.3 l.invariant.fine a.p _ c.loop-k-test.true (sym c.ensure.ensures ∙ c.in_err-ensure.was) in
+    grind (arith, e)
 
 pub bounds-b-at : goal.bounds-b-at
-bounds-b-at c = omega arith
-
-pub overflow_add-at-in-loop-k-2 : goal.overflow_add-at-in-loop-k-2
-overflow_add-at-in-loop-k-2 c = omega arith
+bounds-b-at c = let w = whole (goal.at.bounds-b-at c).In_ok-ensure in omega arith
 
 pub bounds-b-at-in-loop-k : goal.bounds-b-at-in-loop-k
-bounds-b-at-in-loop-k c = omega arith
+bounds-b-at-in-loop-k c = let w = whole (goal.at.bounds-b-at-in-loop-k c).In_ok-ensure in omega arith
 
-pub overflow_mul-key : goal.overflow_mul-key
-overflow_mul-key c = omega arith
-
-pub overflow_add-key : goal.overflow_add-key
-overflow_add-key c = omega arith
-
-pub overflow_add-k : goal.overflow_add-k
-overflow_add-k c = omega arith
-
-pub loop-k-smaller : goal.loop-k-smaller
-loop-k-smaller c = omega arith
+pub returns-in_err-ensure-2 : goal.returns-in_err-ensure-2
+returns-in_err-ensure-2 c = let l = c.loop-k in
+    let a = c.args in
+    let whole = sym c.ensure.ensures ∙ c.in_ok-ensure.was in
+    let bad = sym c.ensure-in-loop-k.ensures ∙ c.in_err-ensure-2.was in
+    let pair = simp (c.from.ensures, c.from-in-loop-k.ensures, c.from-in-loop-k-2.ensures, c.from-in-loop-k-3.ensures) at c.pair_fine-fine.ensures in
+    let e = stop a.b.now a.from l.k c.requires.3 l.invariant.fine a.v _ _ l.last _ c.requires.2 refl refl c.from_be_bytes-key.ensures l.invariant.last_is whole _ pair a.p _ c.loop-k-test.true bad in
+    grind (arith, e)
 
 pub loop-k-preserved : goal.loop-k-preserved
 loop-k-preserved c = let l = c.loop-k in
     let a = c.args in
-    let b = a.b.now in
-    let low = c.small-low.ensures.value in
-    let high = c.small-high.ensures.value in
-    let fits : a.from + 2 * l.k + 2 ≤ length b = omega arith in (
-      omega arith,
-      go b a.from a.v _ _ l.last l.k c.requires.3 c.requires.2 low high l.invariant.2 fits l.invariant.1 (sym c.pair_fine.ensures ∙ c.if-pair_fine.true),
-      last_turn b a.from _ _ l.k c.requires.3 low high,
-    )
-
-pub returns-else-pair_fine : goal.returns-else-pair_fine
-returns-else-pair_fine c = let l = c.loop-k in
-    let a = c.args in
-    let b = a.b.now in
-    let low = c.small-low.ensures.value in
-    let high = c.small-high.ensures.value in
-    let fits : a.from + 2 * l.k + 2 ≤ length b = omega arith in
-    stop b a.from a.v _ _ l.last l.k c.requires.3 c.requires.2 low high l.invariant.2 fits l.invariant.1 a.p (omega arith) (sym c.pair_fine.ensures ∙ c.if-pair_fine.false)
-
-pub returns : goal.returns
-returns c = let l = c.loop-k in
-    let a = c.args in
-    let e : l.k ≡ a.p = omega arith in
-    sym l.invariant.1 ∙ ap (λ (k : ℕ). R.pairs a.b.now k Fine) e
+    let whole = sym c.ensure.ensures ∙ c.in_ok-ensure.was in
+    let good = sym c.ensure-in-loop-k.ensures ∙ c.in_ok-ensure-2.was in
+    let pair = simp (c.from.ensures, c.from-in-loop-k.ensures, c.from-in-loop-k-2.ensures, c.from-in-loop-k-3.ensures) at c.pair_fine-fine.ensures in
+    record {
+      fine = go a.b.now a.from l.k c.requires.3 l.invariant.fine a.v _ _ l.last _ c.requires.2 refl refl c.from_be_bytes-key.ensures l.invariant.last_is whole _ pair good;
+      last_is = c.from_be_bytes-key.ensures ∙ last_turn a.b.now a.from _ _ l.k c.requires.3 refl refl;
+    }

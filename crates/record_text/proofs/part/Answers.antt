@@ -8,25 +8,25 @@ use Rattle.record_text.proofs.part.Goals as goal
 pub overflow_add-e : goal.overflow_add-e
 overflow_add-e c =
     let a = c.args in
-    let e = span_is a.bytes.now a.goal _ c.find.ensures c.in-At.is in
+    let e = span_is a.bytes.now a.goal _ c.find.ensures c.in-Ok.is in
     omega (arith, e.0, e.1, span_inside a.bytes.now a.goal)
 
 pub slice_bounds-result-end : goal.slice_bounds-result-end
 slice_bounds-result-end c =
     let a = c.args in
-    let e = span_is a.bytes.now a.goal _ c.find.ensures c.in-At.is in
+    let e = span_is a.bytes.now a.goal _ c.find.ensures c.in-Ok.is in
     omega (arith, e.0, e.1, span_inside a.bytes.now a.goal)
 
-pub returns-in-At : goal.returns-in-At
-returns-in-At c =
+pub returns-in-Ok : goal.returns-in-Ok
+returns-in-Ok c =
     let a = c.args in
-    let s = c.in-At.s in
-    let e = span_is a.bytes.now a.goal s c.find.ensures c.in-At.is in
+    let s = c.in-Ok.s in
+    let e = span_is a.bytes.now a.goal s c.find.ensures c.in-Ok.is in
     let n : (s.place + s.size) - s.place ≡ s.size = omega arith in
     record { block = refl; offset = omega (arith, e.0); bytes = ap₂ (λ (k l : ℕ). take k (drop l a.bytes.now)) (n ∙ e.1) e.0 }
 
-pub returns-in-NoText : goal.returns-in-NoText
-returns-in-NoText c =
+pub returns-in-Err : goal.returns-in-Err
+returns-in-Err c =
     let a = c.args in
-    let e = none_is a.bytes.now a.goal _ c.find.ensures c.in-NoText.is in
+    let e = none_is a.bytes.now a.goal _ c.find.ensures c.in-Err.is in
     record { block = refl; offset = omega (arith, e.0); bytes = ap₂ (λ (k l : ℕ). take k (drop l a.bytes.now)) e.1 e.0 }

@@ -3,6 +3,7 @@ use Prim.Native.Nat.{ℕ, ◌≤◌, ◌<◌, ◌^◌}
 use native.Mathlib.Omega.{arith}
 use native.Mathlib.Nat.{le_refl}
 use lib.ListN.{length}
+use Rattle.record.proofs.WellFormed.{fine_well_formed}
 use Rattle.buffer.proofs.Writing.{then, recast}
 use Rattle.sheet_text.specs.Parts.{count_line}
 use Rattle.sheet_text.proofs.Lines.{digits, count-length, goals-length}
@@ -18,29 +19,24 @@ pub put_count-o-requires : goal.put_count-o-requires
 put_count-o-requires c = omega (arith, first-line c.goal_count-goals.result (omega (arith, c.goal_count-goals.ensures.upper_bound)))
 
 pub put_goals-o-requires : goal.put_goals-o-requires
-put_goals-o-requires c = record {
-  well_formed = c.requires;
-  at_bound = omega (arith, first-line c.goal_count-goals.result (omega (arith, c.goal_count-goals.ensures.upper_bound)), c.put_count-o.ensures.place);
-}
+put_goals-o-requires c =
+    omega (arith, first-line c.goal_count-goals.result (omega (arith, c.goal_count-goals.ensures.upper_bound)), c.put_count-o.ensures.place)
 
 pub put_form-o-requires : goal.put_form-o-requires
 put_form-o-requires c =
-    let w = c.requires in record {
-      well_formed = w;
-      at_bound =
-          omega (
-            arith,
-            first-line c.goal_count-goals.result (omega (arith, c.goal_count-goals.ensures.upper_bound)),
-            c.put_count-o.ensures.place,
-            c.put_goals-o.ensures.place,
-            goals-length _ w _ (le_refl _),
-            w.goals_to,
-          );
-    }
+    let w = fine_well_formed _ c.args.given.accepted in
+    omega (
+      arith,
+      first-line c.goal_count-goals.result (omega (arith, c.goal_count-goals.ensures.upper_bound)),
+      c.put_count-o.ensures.place,
+      c.put_goals-o.ensures.place,
+      goals-length _ w _ (le_refl _),
+      w.goals_to,
+    )
 
 pub put_bytes-requires : goal.put_bytes-requires
 put_bytes-requires c =
-    let w = c.requires in
+    let w = fine_well_formed _ c.args.given.accepted in
     omega (
       arith,
       first-line c.goal_count-goals.result (omega (arith, c.goal_count-goals.ensures.upper_bound)),

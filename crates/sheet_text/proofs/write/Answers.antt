@@ -1,6 +1,6 @@
 use mathlib.Core.Path.{◌≡◌, refl, sym, ap, ap₂, ◌∙◌}
-use mathlib.Core.List.{[], ◌∷◌, append-nil}
-use Prim.Native.Nat.{ℕ, ◌≤◌, zero-le}
+use mathlib.Core.List.{[], append-nil}
+use Prim.Native.Nat.{zero-le}
 use native.Mathlib.Omega.{arith}
 use lib.ListN.{length, take, length-append}
 use Rattle.buffer.proofs.Writing.{then, recast}
@@ -9,63 +9,38 @@ use Rattle.mel.specs.Annotation.{mel}
 use Rattle.mel.proofs.Outcomes.{refused_buffer}
 use Rattle.sheet_text.specs.Sheet.{line, refused_text}
 use Rattle.sheet_text.specs.Parts.{accepted_top, mel_shown, mel_rest}
-use Rattle.sheet_text.proofs.Lines.{refused-short}
 use Rattle.sheet_text.proofs.Mel.{shown-stands}
 use Rattle.sheet_text.proofs.Sheet.{top_limit, lines-fine, lines-refused, parts-fine, parts-refused, sheet-fine, sheet-refused, shows}
 use Rattle.sheet_text.proofs.write.Goals as goal
 
-pub put_refused-o-requires : goal.put_refused-o-requires
-put_refused-o-requires c = omega (arith, refused-short c.size_of.result c.in-Refused.r.place c.size_of.ensures.upper_bound (omega arith))
+pub put_mel-requires-clause-top_bound : goal.put_mel-requires-clause-top_bound
+put_mel-requires-clause-top_bound c = omega (arith, top_limit _ (fine_well_formed _ c.in-Ok.given.accepted), c.put_top-top.ensures.place)
 
-pub put_byte-end-requires : goal.put_byte-end-requires
-put_byte-end-requires c =
-    omega (arith, refused-short c.size_of.result c.in-Refused.r.place c.size_of.ensures.upper_bound (omega arith), c.put_refused-o.ensures.place)
-
-pub put_top-top-requires : goal.put_top-top-requires
-put_top-top-requires c = fine_well_formed _ (sym c.read.ensures ∙ c.in-Fine.is)
-
-pub put_mel-requires : goal.put_mel-requires
-put_mel-requires c =
-    let w = fine_well_formed _ (sym c.read.ensures ∙ c.in-Fine.is) in
-    record {
-      well_formed = w;
-      text_len = c.requires.text_len;
-      top_bound = omega (arith, top_limit _ w, c.put_top-top.ensures.place);
-    }
-
-pub returns-in-Refused : goal.returns-in-Refused
-returns-in-Refused c =
-    let x = c.in-Refused.r in
+pub returns-in-Err : goal.returns-in-Err
+returns-in-Err c =
+    let x = c.in-Err.r in
     let b = c.args.bytes.now in
-    let e = sym c.read.ensures ∙ c.in-Refused.is in
-    let k = c.size_of.ensures.value in
+    let e = c.in-Err.ensures in
     let t = line (refused_text x.number x.place) in
-    let wrote = recast (ap (λ (n : ℕ). line (refused_text n x.place)) k) (then c.put_refused-o.ensures c.put_byte-end.ensures) in
-    let ends : c.put_byte-end.result ≡ length t = omega (arith, wrote.place) in
+    let wrote = c.put_refused-top.ensures.wrote in
+    let ends : c.put_refused-top.result ≡ length t = omega (arith, wrote.place) in
     let whole = recast (lines-refused b x e) wrote in
-    let limit : length t ≤ 64 =
-    omega (
-      arith,
-      length-append (refused_text x.number x.place) (10 ∷ []),
-      ap (λ (n : ℕ). length (refused_text n x.place)) k,
-      refused-short c.size_of.result x.place c.size_of.ensures.upper_bound (omega arith),
-    ) in
     record {
       value = parts-refused b x e _ ends refl (omega (arith, whole.place));
       shows =
-          shows b _ t [] [] (recast (sym (append-nil t)) wrote) (omega (arith, ap length (append-nil t), limit, c.requires.in_bounds)) ends refl zero-le
+          shows b _ t [] [] (recast (sym (append-nil t)) wrote) (omega (arith, ap length (append-nil t), ends, c.put_refused-top.ensures.upper_bound, c.requires.in_bounds)) ends refl zero-le
           (sheet-refused b x e);
       wrote = whole;
       text_after = refused_buffer b _ x e;
     }
 
-pub returns-in-Fine : goal.returns-in-Fine
-returns-in-Fine c =
+pub returns-in-Ok : goal.returns-in-Ok
+returns-in-Ok c =
     let b = c.args.bytes.now in
-    let e = sym c.read.ensures ∙ c.in-Fine.is in
+    let e = c.in-Ok.ensures.0 in
     let w = fine_well_formed b e in
-    let top = c.put_top-top.ensures in
-    let m = c.put_mel.ensures in
+    let top = rw c.in-Ok.ensures.1 at c.put_top-top.ensures in
+    let m = rw c.in-Ok.ensures.1 at c.put_mel.ensures in
     let ends : c.put_mel.result.top ≡ length (accepted_top b) = omega (arith, m.top_value, top.place) in
     let both = then top m.wrote in
     let whole = recast (lines-fine b e) both in

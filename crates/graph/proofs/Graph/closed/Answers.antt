@@ -12,15 +12,9 @@ use Rattle.graph.specs.Graph.{ahead, rows_of}
 use Rattle.graph.specs.Passes.{pass, after, passes, closed_of}
 use Rattle.graph.specs.PassRows.{same_rows}
 use Rattle.graph.specs.declared.Graph.{Graph}
-use Rattle.graph.proofs.Going.{Going, going_start, going-within, going_next, going_stop, going_on, going_end}
+use Rattle.graph.proofs.Going.{Going, going-within, going_next, going_stop, going_on, going_end}
 use Rattle.graph.proofs.Graph.closed.Goals as goal
 use Rattle.graph.proofs.Graph.closed.Goals.{After-pass-still, Then-still-all, Else-still-all}
-
-pub below32-all-requires : goal.below32-all-requires
-below32-all-requires c = c.requires.0
-
-pub loop-passes-init : goal.loop-passes-init
-loop-passes-init c = (omega arith, omega arith, going_start 32 c.args.self.n c.args.self.rows c.requires.1)
 
 pub pass-still-requires : goal.pass-still-requires
 pass-still-requires c =
@@ -38,15 +32,15 @@ module _ (c : After-pass-still) where
   answer : c.pass-still.result ≡ same_rows g.n rows (rows_of 32 g.n (pass g.n (ahead rows)))
   answer = c.pass-still.ensures.1 ∙ ap (same_rows g.n rows) c.pass-still.ensures.0
 
-  all : c.below32-all.result ≡ below g.n
-  all = c.below32-all.ensures
+  all : c.below-all.result ≡ below g.n
+  all = c.below-all.ensures
 
   -- the pass that is made is this one
   this : suc (c.loop-passes.passes - 1) ≡ c.loop-passes.passes
   this = omega (arith, c.loop-passes.invariant.0)
 
   -- one that adds a wait is not the last
-  on : (c.pass-still.result ≡ c.below32-all.result → ⊥) → Going 32 g.n g.rows c.loop-passes.passes c.pass-still.new.rows
+  on : (c.pass-still.result ≡ c.below-all.result → ⊥) → Going 32 g.n g.rows c.loop-passes.passes c.pass-still.new.rows
   on h =
       let l = c.loop-passes in
       subst₂ (Going 32 g.n g.rows) this (sym c.pass-still.ensures.0)
@@ -66,7 +60,7 @@ ended c = pick (ℕ_discrete still end)
     still = c.pass-still.result
 
     end : ℕ
-    end = c.below32-all.result
+    end = c.below-all.result
 
     made : ℕ
     made = c.loop-passes.passes
@@ -100,16 +94,13 @@ returns-then-still-all c =
     ap₂ (λ (r : List ℕ) (k : ℕ). record { graph = record { n = (g c.before.before).n; rows = r }; passes = k }) is.0 is.1
 
 -- where it goes on, this was not the last that there can be
-more : (c : Else-still-all) → (c.pass-still.result ≡ c.below32-all.result → ⊥) × (c.loop-passes.passes ≡ 6 → ⊥)
+more : (c : Else-still-all) → (c.pass-still.result ≡ c.below-all.result → ⊥) × (c.loop-passes.passes ≡ 6 → ⊥)
 more c =
     let still = c.pass-still.result in
-    let end = c.below32-all.result in
+    let end = c.below-all.result in
     let made = c.loop-passes.passes in
     let r = or-false (eqb still end) (eqb made 6) c.if-still-all.false in
     (eqb-false still end r.0, eqb-false made 6 r.1)
-
-pub loop-passes-smaller : goal.loop-passes-smaller
-loop-passes-smaller c = omega (arith, c.loop-passes.invariant.1, (more c).1)
 
 pub loop-passes-preserved : goal.loop-passes-preserved
 loop-passes-preserved c =

@@ -1,7 +1,0 @@
-use Rattle.lfj.proofs.lfj_ground_sets.Goals as goal
-
-pub goals-requires : goal.goals-requires
-goals-requires c = c.ground_sets-said.ensures.value
-
-pub returns : goal.returns
-returns c = record { value = c.goals.ensures; sets_after = c.ground_sets-said.ensures.sets_after }

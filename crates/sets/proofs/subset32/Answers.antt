@@ -1,7 +1,0 @@
-use mathlib.Core.Path.{refl}
-use Rattle.sets.specs.Sets.{subset}
-use Rattle.sets.proofs.subset32.Goals as goal
-
-pub returns : goal.returns
-unfolding subset
-returns c = refl
