@@ -35,7 +35,7 @@ for case in cases(sys.argv[1:]):
     if operation == "sheet":
         sheets.append((bytes_of(fields[0]), bytes_of(case.answer.split()[1])))
 files, printed = {}, b""
-for name in re.findall(r'print_sheet\(&rt, "([^"]*)\.lfj"\)', read_text("crates/sheet_limits/src/main.rt")):
+for name in re.findall(r'"([\w-]+)\.lfj"', read_text("crates/sheet_limits/src/main.rt")):
     if name not in WANTED:
         fail(f"the program names a record {name}, of which this script knows nothing")
     found = [pair for pair in sheets if WANTED[name](*pair)]
