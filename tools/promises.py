@@ -63,6 +63,9 @@ def difference(message):
 def function(crate, path, line):
     """The function of the crate's source that the line is in."""
     lines = pathlib.Path("crates", crate, path).read_text(encoding="utf-8").split("\n")
+    # an attribute belongs to the function below it
+    while line <= len(lines) and lines[line - 1].lstrip().startswith("#["):
+        line += 1
     for text in reversed(lines[:line]):
         m = re.search(r"\bfn (\w+)", text)
         if m:

@@ -2,12 +2,11 @@
 use mathlib.Core.Path.{◌≡◌, refl, sym, ap, ◌∙◌, subst}
 use mathlib.Core.Bool.{Bool, true, false, cond}
 use mathlib.Core.List.{List, [], ◌∷◌, ◌++◌, append_assoc}
-use Prim.Native.Nat.{ℕ, suc, ◌+◌, ◌-◌, ◌≤◌, ◌<◌}
+use Prim.Native.Nat.{ℕ, suc, ◌+◌, ◌≤◌, ◌<◌}
 use native.Mathlib.Nat.{add-zero, add-suc, suc-add}
 use native.Mathlib.Omega.{arith}
 use lib.ListN.{length, set, take, drop, length-append}
 use borrow.Rule.Slice.PartMut.{put_mid}
-use Rattle.std.proofs.lemmas.List.{length-take-le, take-append-drop}
 use Rattle.std.proofs.Math.Seq.{take-length}
 use Rattle.std.proofs.lemmas.Slice.{put_mid-paste}
 use lib.Dec.{ltb}
@@ -64,15 +63,6 @@ copied t l t' at k h e p =
       place = refl;
       bytes = put_mid-paste at k l t' t (length t) p (sym e) refl ∙ rw take-length (sym (sets-eq t l at h));
     }
-
--- what goes in of a text, copied into a buffer that ends inside it
-pub copied_front : (t l t' : List ℕ) (at k : ℕ) → at ≤ length l → length l ≤ at + length t → k ≡ length l - at → t' ≡ take k t → Wrote t at l (at + length t) (put_mid at k l t')
-copied_front t l t' at k h g e p =
-    let n : length (take k t) ≡ k = length-take-le k t (omega arith) in
-    let front : Wrote (take k t) at l (at + length (take k t)) (put_mid at k l t') = copied (take k t) l t' at k (omega arith) (sym n) p in
-    let both : Wrote (take k t ++ drop k t) at l (at + length (take k t) + length (drop k t)) (put_mid at k l t') =
-    then front (past (drop k t) (put_mid at k l t') (at + length (take k t)) (omega (arith, kept front))) in
-    arrive (omega (arith, length-append (take k t) (drop k t), ap length (take-append-drop k t))) (recast (take-append-drop k t) both)
 
 -- a store before the place where a text is written
 set_sets : (t : List ℕ) (l : List ℕ) (i j : ℕ) (b : ℕ) → i < j → set (sets l j t) i b ≡ sets (set l i b) j t

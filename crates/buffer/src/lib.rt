@@ -25,7 +25,8 @@ pub fn put_byte(out: &mut [u8], at: usize, b: u8) -> usize
     at + 1
 }
 
-// Writes all of s from place `at`. Whether it has room is asked once and not at each byte; where the buffer ends inside it, what goes in is put.
+// Writes all of s from place `at`. Whether it has room is asked once and not at each byte, unless the buffer ends inside it. There it goes byte by byte: the copy of a
+// part whose length is not known would keep a check's text in memory while its digits are put in, and MEL would take up to twice the time.
 pub fn put_bytes(out: &mut [u8], at: usize, s: &[u8]) -> usize
     requires { at + length s.now < 2 ^ 64 }
     ensures { Wrote s.now at out.old result out.new }
@@ -34,8 +35,9 @@ pub fn put_bytes(out: &mut [u8], at: usize, s: &[u8]) -> usize
     if end <= out.len() {
         out[at..end].copy_from_slice(s);
     } else if at < out.len() {
-        let room = out.len() - at;
-        out[at..].copy_from_slice(&s[..room]);
+        for (i, b) in s.iter().enumerate() {
+            put_byte(out, at + i, *b);
+        }
     }
     end
 }

@@ -6,7 +6,7 @@ use Rattle.logic.specs.Quantifiers.{lowest}
 use Rattle.dispatch_rule.specs.declared.Head.{Head}
 use Rattle.dispatch_rule.specs.Rule.{State, idle, worked}
 use Rattle.dispatch_steps.specs.declared.Phase.{Phase}
-use Rattle.dispatch_steps.specs.declared.Phase.TheVariants.{Look, Go, Rest, Idle}
+use Rattle.dispatch_steps.specs.declared.Phase.TheVariants.{Look, Go, Rest, Idle, Other}
 use Rattle.dispatch_steps.specs.declared.Board.{Board}
 use Rattle.dispatch_steps.specs.declared.Plan.{Plan}
 use Rattle.dispatch_steps.specs.declared.Opening.{Opening}
@@ -67,6 +67,11 @@ rest_of h Idle = idle
 rest_of h Look = h
 rest_of h Go = h
 rest_of h Rest = h
+rest_of h (Other n) = h
+
+-- ---- the phase with this number
+abbrev pub phase_of : ℕ → Phase
+phase_of n = cond (eqb n 0) Look (cond (eqb n 1) Go (cond (eqb n 2) Rest (cond (eqb n 3) Idle (Other n))))
 
 -- ---- a head's turn, by the phase of the board
 abbrev pub turn_of : Phase → Head → Board → Plan → Stepped
@@ -74,6 +79,7 @@ turn_of Look h b p = record { head = h; board = look_of goal_limit h b p }
 turn_of Go h b p = go_of goal_limit h b p
 turn_of Rest h b p = record { head = rest_of h Rest; board = b }
 turn_of Idle h b p = record { head = rest_of h Idle; board = b }
+turn_of (Other n) h b p = record { head = rest_of h (Other n); board = b }
 
 unfoldable pub step_of : Head → Board → Plan → Stepped
 step_of h b p = turn_of b.phase h b p
@@ -93,6 +99,7 @@ next_phase Look = Go
 next_phase Go = Go
 next_phase Rest = Rest
 next_phase Idle = Idle
+next_phase (Other n) = Other n
 
 unfoldable pub second_of : Board → Board
 second_of b = record { phase = next_phase b.phase; free = b.free; done = b.done }

@@ -14,13 +14,30 @@ use graph::Graph;
 use record_rules::Refusal;
 use sets::Set;
 
-// What is done with a head at its turn: it is looked at, it takes a goal and works, it rests since something is refused, it is made idle.
+// What is done with a head at its turn: it is looked at, it takes a goal and works, it rests since something is refused, it is made idle. With any other number head and
+// board stay as they are.
 #[derive(Clone, Copy, PartialEq, Eq)]
 pub enum Phase {
     Look,
     Go,
     Rest,
     Idle,
+    Other(u32),
+}
+
+// The phases are numbered from 0.
+impl From<u32> for Phase {
+    ghost from_gives = { λ n f. f ≡ S.phase_of n };
+
+    fn from(number: u32) -> Phase {
+        match number {
+            0 => Phase::Look,
+            1 => Phase::Go,
+            2 => Phase::Rest,
+            3 => Phase::Idle,
+            _ => Phase::Other(number),
+        }
+    }
 }
 
 // What a tick goes by and no turn changes: how many ticks each goal takes, goal g at place g - 1.

@@ -9,7 +9,7 @@ use Rattle.order.specs.Arrays.{waiting_on}
 use Rattle.lfj_words.specs.Words.{refusal_word}
 use Rattle.dispatch_rule.specs.declared.Head.{Head}
 use Rattle.dispatch_steps.specs.declared.Phase.{Phase}
-use Rattle.dispatch_steps.specs.declared.Phase.TheVariants.{Look, Go, Rest, Idle}
+use Rattle.dispatch_steps.specs.declared.Phase.TheVariants.{Look, Go, Rest, Idle, Other}
 use Rattle.dispatch_steps.specs.declared.Board.{Board}
 use Rattle.dispatch_steps.specs.declared.Opening.{Opening}
 use Rattle.dispatch_steps.specs.Steps.{turn_board}
@@ -68,6 +68,7 @@ word_in Look r m = m
 word_in Go r m = m
 word_in Rest r m = refusal_word r.number r.place
 word_in Idle r m = m
+word_in (Other n) r m = m
 
 unfoldable pub board_word : Board → Refusal → ℕ
 board_word b r = word_in b.phase r b.done

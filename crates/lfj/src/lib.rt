@@ -157,34 +157,40 @@ fn counted(bytes: &[u8], said: Result<(), Refusal>, count: usize) -> u64
     }
 }
 
-// Fills `sets` with the variables of the goals, those of goal g at place g - 1: the goal count.
+// The word of the goal count.
 #[tactic(auto, unfolding(annotator::specs::Answers::read))]
+fn goals(bytes: &[u8], said: Result<(), Refusal>) -> u64
+    requires { said ≡ reading bytes.now }
+    ensures { result ≡ W.read_word (P.read bytes.now) }
+{
+    counted(bytes, said, record_fields::goal_count(bytes))
+}
+
+// Fills `sets` with the variables of the goals, those of goal g at place g - 1: the goal count.
 pub fn lfj_goal_sets(bytes: &[u8], sets: &mut [u64; Graph::MAX]) -> u64
     ensures value { result ≡ W.read_word (P.read bytes.now) }
     ensures sets_after { sets.new ≡ filled bytes.now (C.goal_sets goal_limit bytes.now) sets.old }
 {
     let said = clause_facts::goal_sets(bytes, sets);
-    counted(bytes, said, record_fields::goal_count(bytes))
+    goals(bytes, said)
 }
 
 // Fills `sets` with the variables known ground at the goals, those at goal g at place g - 1: the goal count.
-#[tactic(auto, unfolding(annotator::specs::Answers::read))]
 pub fn lfj_ground_sets(bytes: &[u8], sets: &mut [u64; Graph::MAX]) -> u64
     ensures value { result ≡ W.read_word (P.read bytes.now) }
     ensures sets_after { sets.new ≡ filled bytes.now (C.ground_sets goal_limit bytes.now) sets.old }
 {
     let said = clause_facts::ground_sets(bytes, sets);
-    counted(bytes, said, record_fields::goal_count(bytes))
+    goals(bytes, said)
 }
 
 // Fills `ticks` with the ticks of the goals, those of goal g at place g - 1: the goal count.
-#[tactic(auto, unfolding(annotator::specs::Answers::read))]
 pub fn lfj_ticks(bytes: &[u8], ticks: &mut [u32; Graph::MAX]) -> u64
     ensures value { result ≡ W.read_word (P.read bytes.now) }
     ensures ticks_after { ticks.new ≡ filled bytes.now (C.goal_ticks goal_limit bytes.now) ticks.old }
 {
     let said = clause_facts::goal_ticks(bytes, ticks);
-    counted(bytes, said, record_fields::goal_count(bytes))
+    goals(bytes, said)
 }
 
 // Fills `rows` with the listed pairs, row x with the variables that are listed in a pair with x: the variable count.

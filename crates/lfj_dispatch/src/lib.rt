@@ -22,21 +22,17 @@ ghost use Rattle.dispatcher.specs.Ticks as T;
 use dispatch_rule::Head;
 use dispatch_steps::{Board, Opening, Plan};
 
-// Each head in turn, lowest first. The board is kept field by field: a phase is one byte, and a whole board would take along the three bytes beside it.
+// Each head in turn, lowest first.
 fn sweep(heads: &mut [Head], b: Board, p: Plan) -> Board
     ensures { (result ≡ S.sweep_board p heads.old b) × (heads.new ≡ S.sweep_heads p heads.old b) }
 {
-    let mut phase = b.phase;
-    let mut free = b.free;
-    let mut done = b.done;
+    let mut board = b;
     for h in heads.iter_mut() {
-        let out = dispatch_steps::step(*h, Board { phase, free, done }, p);
+        let out = dispatch_steps::step(*h, board, p);
         *h = out.head;
-        phase = out.board.phase;
-        free = out.board.free;
-        done = out.board.done;
+        board = out.board;
     }
-    Board { phase, free, done }
+    board
 }
 
 // The row gone over twice, and the answer word.

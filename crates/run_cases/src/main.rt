@@ -130,7 +130,8 @@ fn run_sheet<W: Write>(out: &mut W, bytes: &[u8]) -> io::Result<()> {
     writeln!(out)
 }
 
-// Runs an operation that writes into a buffer of so many bytes.
+// Runs an operation that writes into a buffer of so many bytes. In line, the buffer of each operation would stand on the stack of every case.
+#[inline(never)]
 fn run_writer<W: Write, E: fmt::Display + Drop, F: FnOnce(&[u8], &mut [u8]) -> Result<usize, E>>(
     out: &mut W,
     bytes: &[u8],
